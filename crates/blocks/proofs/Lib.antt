@@ -1,0 +1,5 @@
+pub mod Rows
+pub mod Uniformly
+pub mod Ones
+pub mod Gated
+pub mod Paired

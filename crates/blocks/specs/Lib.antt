@@ -1,0 +1,5 @@
+pub mod Blocks
+pub mod Names
+pub mod Uniform
+pub mod Gates
+pub mod Pair

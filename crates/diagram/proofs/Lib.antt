@@ -1,0 +1,2 @@
+mod Typings
+mod Shapings

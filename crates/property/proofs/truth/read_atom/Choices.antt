@@ -1,0 +1,11 @@
+use mathlib.Core.Path.{_≡_}
+use Prim.Native.Nat.{ℕ}
+use Rattle.looping.specs.Columns.{at, Kept}
+use Rattle.looping.specs.Words.{Within}
+use Rattle.property.specs.Meaning.{holds}
+use Rattle.property.proofs.truth.read_atom.Given as given
+
+abbrev pub Inv-loop-i : given.InvT-loop-i
+Inv-loop-i l =
+    ((j : ℕ) → Within (l .i) j → at (l .column) j ≡ holds (l .signals) (l .table) (l .atom) j)
+    × Kept (l .steps) (l .entry .column) (l .column)

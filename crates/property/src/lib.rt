@@ -1,0 +1,7 @@
+// Properties of looping runs: a property is a tree of nodes, and each node has a truth at each step.
+pub mod nodes;
+pub mod tree;
+pub mod truth;
+
+pub use tree::one_tree;
+pub use truth::fill;

@@ -1,0 +1,2 @@
+mod Magnitudes
+mod Signs
