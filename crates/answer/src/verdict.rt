@@ -1,6 +1,9 @@
 // The verdict of a case file.
 ghost use mathlib.Core.Path.{_≡_};
-ghost use Prim.Native.Nat.{_+_, _*_, _≤_};
+ghost use Prim.Native.Nat.{_+_, _*_, _<_, _≤_};
+ghost use lib.ListN.{length};
+ghost use Rattle.std.specs.declared.result.Result.the-variants.{Err};
+ghost use Rattle.casefile.specs.Passed.{Passed};
 use blocks::gates::Gates;
 use blocks::gates::GatesLibrary;
 use blocks::gates::GatesNamed;
@@ -15,7 +18,6 @@ use casefile::read::read;
 use casefile::record::FILE_ENTRIES;
 use casefile::record::Record;
 use diagram::fault::CaseFault;
-use diagram::rules::check_rules;
 use diagram::rules::take_in;
 use numbers::Numbers;
 use numbers::NumbersLibrary;
@@ -37,12 +39,13 @@ fn entries(n: usize, m: usize, steps: usize) -> usize
     (n + m) * steps
 }
 
-// Opens the case of a record.
-fn open_record(rec: &Record) -> Result<bool, CaseFault> {
+// Opens the case of a record that was read.
+fn open_record(rec: &Record) -> Result<bool, CaseFault>
+    requires { ⌜ Passed (now rec) ⌝ }
+{
     let (n, p, m) = (rec.signal_count, rec.pin_count, rec.node_count);
     let signals = &rec.signals[0..n];
     let pins = &rec.pins[0..p];
-    check_rules(signals, pins)?;
     let d = take_in(signals, pins);
     let mut table = rec.table;
     let mut marks = [0u8; FILE_ENTRIES];
@@ -60,7 +63,9 @@ fn open_record(rec: &Record) -> Result<bool, CaseFault> {
 }
 
 // Whether the property of a case file holds.
-pub fn verdict(bytes: &[u8]) -> Result<bool, FileFault> {
+pub fn verdict(bytes: &[u8]) -> Result<bool, FileFault>
+    ensures { λ r. ⌜ (32768 < length (now (bytes .entry)) → r ≡ Err FileFault.TooLong) ⌝ }
+{
     let lib = file_library();
     let mut rec = clear();
     read(&lib, bytes, &mut rec)?;

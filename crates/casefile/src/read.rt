@@ -4,7 +4,9 @@ ghost use Prim.Native.Nat.{ℕ, _+_, _-_, _*_, _<_, _≤_};
 ghost use lib.ListN.{length, getD};
 ghost use Rattle.std.specs.Results.{Cases as ByOk};
 ghost use Rattle.std.specs.Vec.{made};
+ghost use Rattle.std.specs.declared.result.Result.the-variants.{Err};
 ghost use Rattle.casefile.specs.Cleared.{Cleared};
+ghost use Rattle.casefile.specs.Passed.{Passed};
 use crate::cleared::clear;
 use crate::fault::FileFault;
 use crate::fault::FileFromCase;
@@ -282,7 +284,9 @@ fn resolve<L: NamedLibrary>(lib: &L, bytes: &[u8], sheet: &Sheet) -> Result<Reco
 }
 
 // The checks of the diagram, the types, the property and the steps.
-fn check_record<L: NamedLibrary>(lib: &L, rec: &Record) -> Result<(), CaseFault> {
+fn check_record<L: NamedLibrary>(lib: &L, rec: &Record) -> Result<(), CaseFault>
+    ensures { λ r. ⌜ made r (λ _. Passed (now (rec .entry))) ⌝ }
+{
     let signal_count = rec.signal_count;
     let pin_count = rec.pin_count;
     let node_count = rec.node_count;
@@ -302,7 +306,10 @@ fn check_record<L: NamedLibrary>(lib: &L, rec: &Record) -> Result<(), CaseFault>
 }
 
 // The record of a file.
-fn parse<L: NamedLibrary>(lib: &L, bytes: &[u8]) -> Result<Record, FileFault> {
+fn parse<L: NamedLibrary>(lib: &L, bytes: &[u8]) -> Result<Record, FileFault>
+    ensures passed { λ r. ⌜ made r (λ rec. Passed rec) ⌝ }
+    ensures long { λ r. ⌜ (32768 < length (now (bytes .entry)) → r ≡ Err FileFault.TooLong) ⌝ }
+{
     if bytes.len() > FILE_LIMIT {
         return Err(FileFault::TooLong);
     }
@@ -312,9 +319,11 @@ fn parse<L: NamedLibrary>(lib: &L, bytes: &[u8]) -> Result<Record, FileFault> {
     Ok(rec)
 }
 
-// Reads a file into the record; a declined file leaves it cleared.
+// Reads a file into the record: what was read passes the checks of a case up to the steps, and a declined file leaves the
+// record cleared.
 pub fn read<L: NamedLibrary>(lib: &L, bytes: &[u8], rec: &mut Record) -> Result<(), FileFault>
-    ensures { λ r. ⌜ ByOk r (λ _. Unit {0}) (λ _. Cleared (now (rec .exit))) ⌝ }
+    ensures left { λ r. ⌜ ByOk r (λ _. Passed (now (rec .exit))) (λ _. Cleared (now (rec .exit))) ⌝ }
+    ensures long { λ r. ⌜ (32768 < length (now (bytes .entry)) → r ≡ Err FileFault.TooLong) ⌝ }
 {
     match parse(lib, bytes) {
         Ok(read) => {

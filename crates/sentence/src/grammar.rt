@@ -265,9 +265,11 @@ fn single(bytes: &[u8], at: usize, terms: &mut Terms) -> Result<Reading, NoSente
 
 // The terms of the sentence that the bytes from `from` to their end are.
 pub fn sentence(bytes: &[u8], from: usize) -> Result<Terms, NoSentence>
-    requires { ⌜ from ≤ length (now bytes) ⌝ }
-    ensures { λ r. ⌜ made r (λ t. 1 ≤ t .count) ⌝ }
+    ensures { λ r. ⌜ made r (λ t. (1 ≤ t .count) × (from < length (now (bytes .entry)))) ⌝ }
 {
+    if from > bytes.len() {
+        return Err(NoSentence);
+    }
     let mut terms = Terms::none();
     let reading = whole(bytes, from, &mut terms)?;
     if skip_spaces(bytes, reading.next) < bytes.len() {
