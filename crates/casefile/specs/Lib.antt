@@ -1,3 +1,4 @@
 pub mod Fields
 pub mod Cleared
 pub mod Passed
+pub mod Lines

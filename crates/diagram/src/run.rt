@@ -5,6 +5,9 @@ ghost use Prim.Native.Nat.{ℕ, _+_, _-_, _*_, _%_, _<_, _≤_};
 ghost use lib.ListN.{length, getD};
 ghost use Rattle.std.specs.Orderings.{Decides};
 ghost use Rattle.std.specs.Options.{Cases as BySome};
+ghost use lib.IntN.{pos, _-ℤ_};
+ghost use Rattle.blocks.specs.Blocks.{InType};
+ghost use Rattle.blocks.specs.declared.types.ValueType.the-variants.{Truth};
 ghost use Rattle.diagram.specs.Rules.{signalAt, pinAt};
 ghost use Rattle.diagram.specs.Values.{valueAt, InItsType, AllInType, FirstOutside, Closes, AllClose, FirstOpen};
 use crate::rules::Diagram;
@@ -36,8 +39,11 @@ pub fn outside_type(types: &[ValueType], n: usize, table: &[i16], count: usize) 
     None
 }
 
-// What a pin shows of a value.
-fn shown(inverted: bool, v: i16) -> i16 {
+// What a pin shows of a value: an inverted one shows 1 minus it.
+fn shown(inverted: bool, v: i16) -> i16
+    ensures plain { λ r. ⌜ (inverted ≡ false → r ≡ v) ⌝ }
+    ensures turned { λ r. ⌜ (inverted ≡ true → InType Truth v → r ≡ pos 1 -ℤ v) ⌝ }
+{
     if inverted { 1i16.wrapping_sub(v) } else { v }
 }
 

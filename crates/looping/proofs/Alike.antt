@@ -1,8 +1,8 @@
 -- Sides that are the same at each step of the run mean the same.
-use mathlib.Core.Path.{_≡_, refl, sym, ap, _∙_, subst}
-use mathlib.Core.Bool.{Bool, true, false}
-use mathlib.Core.Logic.{_⊎_, inl, inr}
-use Prim.Native.Nat.{ℕ, zero, suc, _≤_, _<_}
+use mathlib.Core.Path.{_≡_, sym, _∙_, subst}
+use mathlib.Core.Bool.{Bool}
+use mathlib.Core.Logic.{inl, inr}
+use Prim.Native.Nat.{ℕ, _<_}
 use native.Mathlib.Omega.{arith}
 use Rattle.std.specs.Orderings.{Decides}
 use Rattle.std.proofs.shelf.Ways.{decides-like}
@@ -10,7 +10,7 @@ use Rattle.looping.specs.declared.Unary.{Unary}
 use Rattle.looping.specs.declared.Unary.the-variants.{Not, Next, Finally, Globally}
 use Rattle.looping.specs.declared.Binary.{Binary}
 use Rattle.looping.specs.declared.Binary.the-variants.{And, Or, Implies, Until}
-use Rattle.looping.specs.Words.{after, onward, visits, visit, Loops, Within}
+use Rattle.looping.specs.Words.{after, visits, visit, Loops, Within}
 use Rattle.looping.specs.Columns.{On}
 use Rattle.looping.specs.Laws.{Means1, Means2}
 use Rattle.looping.proofs.Paths.{after-within, onward-within, visits-onward}

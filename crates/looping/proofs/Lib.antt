@@ -3,5 +3,6 @@ mod Walks
 mod Passes
 pub mod Sats
 pub mod Alike
-mod Book
+mod Holding
 pub mod Filling
+mod Examples

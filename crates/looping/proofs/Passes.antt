@@ -1,17 +1,16 @@
 -- Two passes find the truth at every step.
 use mathlib.Core.Path.{_≡_, refl, sym, ap, _∙_, subst}
 use mathlib.Core.Bool.{Bool, true, false, not, _&&_, _||_}
-use mathlib.Core.Logic.{_⊎_, inl, inr, _↔_}
+use mathlib.Core.Logic.{_⊎_, inl, inr}
 use Prim.Native.Nat.{ℕ, zero, suc, _+_, _-_, _≤_, _<_}
 use native.Mathlib.Omega.{arith}
-use native.Mathlib.Nat.{add-suc, add-zero}
 use Rattle.std.specs.Orderings.{Decides}
-use Rattle.std.proofs.shelf.Tests.{or-cases, or-left, or-right, and-parts, and-from, both-ways, cases-bool, not-true, not-false, not-from-true, not-from-false}
-use Rattle.looping.specs.Words.{after, onward, word, visits, visit, Loops, Within}
+use Rattle.std.proofs.shelf.Tests.{or-cases, or-left, or-right, and-parts, and-from, both-ways, cases-bool, not-true, not-from-false}
+use Rattle.looping.specs.Words.{after, onward, visit, Loops, Within}
 use Rattle.looping.specs.Laws.{SomeVisit, AllVisits, UntilVisit}
 use Rattle.looping.specs.Columns.{On}
 use Rattle.looping.specs.Sweeps.{down, swept}
-use Rattle.looping.proofs.Paths.{after-below, after-last, onward-suc, visits-onward, visit-low}
+use Rattle.looping.proofs.Paths.{after-below, after-last, onward-suc, visit-low}
 use Rattle.looping.proofs.Walks.{Reach, visit-reach, reach-visit}
 
 abbrev pub untilTurn : (ℕ → Bool) → (ℕ → Bool) → ℕ → Bool → Bool

@@ -1,10 +1,9 @@
 -- Walks along a looping run: each step that is reached is reached within the visits.
 use mathlib.Core.Path.{_≡_, refl, sym, ap, _∙_}
-use mathlib.Core.Bool.{Bool, true, false, cond}
-use mathlib.Core.Logic.{_⊎_, inl, inr}
-use Prim.Native.Nat.{ℕ, zero, suc, _+_, _-_, _%_, _≤_, _<_}
+use mathlib.Core.Logic.{inl, inr}
+use Prim.Native.Nat.{ℕ, zero, suc, _+_, _-_, _≤_, _<_}
 use native.Mathlib.Omega.{arith}
-use native.Mathlib.Nat.{add-suc, add-zero, zero-add}
+use native.Mathlib.Nat.{add-suc, add-zero}
 use lib.Dec.{ltb, leb}
 use Rattle.std.proofs.shelf.Tests.{cases-lt, cond-true, cond-false, lt-ltb, le-ltb, le-leb, lt-leb}
 use Rattle.looping.specs.Words.{after, onward, word, visits, visit, Loops, Within}

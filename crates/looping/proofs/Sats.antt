@@ -1,16 +1,16 @@
 -- Each operator's column comes from those of its sides.
-use mathlib.Core.Path.{_≡_, refl, sym, ap, _∙_, subst}
+use mathlib.Core.Path.{_≡_, subst}
 use mathlib.Core.Bool.{Bool, true, false, not, _&&_, _||_}
 use mathlib.Core.Logic.{_⊎_, inl, inr, _↔_}
-use Prim.Native.Nat.{ℕ, zero, suc, _+_, _-_, _≤_, _<_}
+use Prim.Native.Nat.{ℕ, suc, _-_}
 use Rattle.std.specs.Orderings.{Decides}
 use Rattle.std.proofs.shelf.Tests.{cases-bool, or-cases, or-left, or-right, both-ways, not-true, not-from-false}
-use Rattle.std.proofs.shelf.Ways.{decides-at, decides-like, decides-not, decides-and, decides-or}
+use Rattle.std.proofs.shelf.Ways.{decides-like, decides-not, decides-and, decides-or}
 use Rattle.looping.specs.declared.Unary.{Unary}
 use Rattle.looping.specs.declared.Unary.the-variants.{Not, Next, Finally, Globally}
 use Rattle.looping.specs.declared.Binary.{Binary}
 use Rattle.looping.specs.declared.Binary.the-variants.{And, Or, Implies, Until}
-use Rattle.looping.specs.Words.{after, onward, word, visits, visit, Loops, Within}
+use Rattle.looping.specs.Words.{after, word, Loops, Within}
 use Rattle.looping.specs.Logic.{Tree, Sat, atom, one, two}
 use Rattle.looping.specs.Columns.{On}
 use Rattle.looping.specs.Laws.{Means1, Means2, Truths}

@@ -1,9 +1,9 @@
 -- What holds along a walk is seen at the visits.
-use mathlib.Core.Path.{_≡_, refl, sym, ap, _∙_, subst}
+use mathlib.Core.Path.{_≡_, sym, ap, _∙_, subst}
 use mathlib.Core.Logic.{_↔_}
-use Prim.Native.Nat.{ℕ, zero, suc, _+_, _-_, _≤_, _<_}
+use Prim.Native.Nat.{ℕ, _+_, _-_, _≤_, _<_}
 use native.Mathlib.Omega.{arith}
-use Rattle.looping.specs.Words.{after, onward, word, visits, visit, Loops, Within}
+use Rattle.looping.specs.Words.{onward, word, Loops, Within}
 use Rattle.looping.specs.Laws.{SomeVisit, AllVisits, UntilVisit}
 use Rattle.looping.proofs.Paths.{onward-onward, visits-onward, folds, word-within}
 

@@ -1,6 +1,6 @@
 -- Linear temporal logic over the positions of a word.
 use mathlib.Core.Path.{_≡_}
-use mathlib.Core.Bool.{Bool, true, false}
+use mathlib.Core.Bool.{Bool, true}
 use mathlib.Core.Logic.{_⊎_}
 use Prim.Native.Nat.{ℕ, suc, _≤_, _<_}
 use Rattle.looping.specs.declared.Unary.{Unary}

@@ -1,5 +1,5 @@
 -- Passes over a run, from its last step down to its first.
-use mathlib.Core.Bool.{Bool, true, false, not, _&&_, _||_}
+use mathlib.Core.Bool.{Bool, not, _&&_, _||_}
 use Prim.Native.Nat.{ℕ, zero, suc, _-_}
 use Rattle.looping.specs.declared.Sweep.{Sweep}
 use Rattle.looping.specs.declared.Sweep.the-variants.{Until, Finally, Globally}

@@ -1,5 +1,5 @@
 -- The infinite word that a looping run spells. A run has the steps 1 to l, and after step l comes step c.
-use mathlib.Core.Bool.{Bool, true, false, cond}
+use mathlib.Core.Bool.{cond}
 use Prim.Native.Nat.{ℕ, zero, suc, _+_, _-_, _≤_}
 use lib.Dec.{ltb, leb}
 

@@ -1,10 +1,10 @@
 // Truth over a looping run: what it depends on, and how it is filled in, column by column.
 // A column has one truth a step, step i at place i - 1. A run has `steps` steps, and after the last comes step `back`.
 ghost use mathlib.Core.Path.{_≡_};
-ghost use Prim.Native.Nat.{ℕ, suc, _-_, _≤_};
+ghost use Prim.Native.Nat.{ℕ, suc, _-_, _<_, _≤_};
 ghost use lib.ListN.{length};
 ghost use Rattle.std.specs.Orderings.{Decides};
-ghost use Rattle.looping.specs.Words.{after, Loops, Within};
+ghost use Rattle.looping.specs.Words.{after, visits, visit, Loops, Within};
 ghost use Rattle.looping.specs.Columns.{at, On, Kept};
 ghost use Rattle.looping.specs.Sweeps.{down, swept, turned, turnAt, gated};
 ghost use Rattle.looping.specs.Laws.{Visits, Means1, Means2};
@@ -58,6 +58,27 @@ pub fn step_after(step: usize, steps: usize, back: usize) -> usize
     if step < steps { step + 1 } else { back }
 }
 
+// How many visits there are from a step: the steps from it to the last, and then those from `back` to just before it.
+pub fn visit_count(step: usize, steps: usize, back: usize) -> usize
+    requires { ⌜ Loops steps back ⌝ ∗ ⌜ Within steps step ⌝ }
+    ensures { λ r. ⌜ r ≡ visits steps back step ⌝ }
+{
+    (steps - step + 1) + step.saturating_sub(back)
+}
+
+// The step that is visit n from a step, where visits count from 0.
+pub fn visit_step(step: usize, n: usize, steps: usize, back: usize) -> usize
+    requires { ⌜ Loops steps back ⌝ ∗ ⌜ Within steps step ⌝ ∗ ⌜ n < visits steps back step ⌝ }
+    ensures { λ r. ⌜ r ≡ visit steps back step n ⌝ }
+{
+    let before_last = steps - step;
+    if n <= before_last {
+        step + n
+    } else {
+        back + (n - before_last - 1)
+    }
+}
+
 // What a step with these truths makes of the truth that is carried to it.
 fn turn(sweep: Sweep, left: bool, right: bool, carried: bool) -> bool
     ensures { λ r. ⌜ r ≡ turned sweep left right carried ⌝ }
@@ -108,8 +129,8 @@ fn next(child: &[bool], steps: usize, back: usize, truths: &mut [bool])
     ensures kept { λ _. ⌜ Kept steps (now (truths .entry)) (now (truths .exit)) ⌝ }
 {
     for i in 0..steps {
-        let after = step_after(i + 1, steps, back);
-        truths[i] = child[after - 1];
+        let following = step_after(i + 1, steps, back);
+        truths[i] = child[following - 1];
     }
 }
 

@@ -1,20 +1,40 @@
 -- Columns of a list that has an element for each step and column, read and written step by step.
-use mathlib.Core.Path.{_≡_, refl, sym, ap, _∙_, subst}
-use mathlib.Core.Logic.{_⊎_, inl, inr, _≢_}
+use mathlib.Core.Path.{_≡_, sym, ap, _∙_, subst}
+use mathlib.Core.Logic.{inl, inr}
 use mathlib.Core.List.{List}
-use mathlib.Core.Bool.{Bool, true, false}
-use Prim.Native.Nat.{ℕ, zero, suc, _+_, _-_, _*_, _/_, _%_, _≤_, _<_}
+use mathlib.Core.Bool.{Bool, false}
+use Prim.Native.Nat.{ℕ, suc, _+_, _-_, _*_, _/_, _%_, _≤_, _<_}
 use native.Mathlib.Omega.{arith}
+use native.Mathlib.Nat.{mul-comm, mod-lt}
 use lib.ListN.{length, getD, set}
 use lib.Seq.{getD-set-same, getD-set-other}
 use Rattle.std.proofs.shelf.Tests.{cases-eq}
-use Rattle.std.proofs.shelf.Bits.{mul-add-lt, div-mul-add, mod-mul-add}
+use Rattle.std.proofs.shelf.Bits.{mul-add-lt, div-mul-add, mod-mul-add, div-below, div-add-mod'}
 use Rattle.looping.specs.Words.{Within}
 use Rattle.property.specs.ByNode.{spot, KeptBeside}
 
 -- a place in step i + 1 lies in a list of l steps
 pub place-below : (m f i l n : ℕ) → f < m → i < l → l * m ≤ n → i * m + f < n
 place-below m f i l n h b e = omega (arith, mul-add-lt i m f l b h)
+
+-- the column and the step of a place
+pub record Decoded (m l p : ℕ) : Type 0 where
+  pub f : ℕ
+  pub j : ℕ
+  pub column : f < m
+  pub step : Within l j
+  pub place : (j - 1) * m + f ≡ p
+
+pub decode : (m l p : ℕ) → 0 < m → p < m * l → Decoded m l p
+decode m l p h b =
+    let back : suc (p / m) - 1 ≡ p / m = omega arith in
+    record {
+      f = p % m;
+      j = suc (p / m);
+      column = mod-lt p h;
+      step = record { low = omega arith; high = div-below p m l h (subst (λ (x : ℕ). p < x) (mul-comm m l) b) };
+      place = ap (λ (i : ℕ). i * m + p % m) back ∙ div-add-mod' p m;
+    }
 
 -- places of one column at two steps differ
 apart : (m f i k : ℕ) → f < m → k * m + f ≡ i * m + f → k ≡ i

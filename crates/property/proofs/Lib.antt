@@ -1,7 +1,9 @@
-mod Trees
-mod Numbers
+pub mod Trees
+pub mod Numbers
 pub mod Whole
-mod Columns
-mod Settling
-mod Alike
-mod Saying
+pub mod Columns
+pub mod Settling
+pub mod Alike
+pub mod Saying
+pub mod Sides
+mod Examples

@@ -1,21 +1,20 @@
 -- The truths of all nodes, worked out node by node.
-use mathlib.Core.Path.{_≡_, refl, sym, ap, _∙_, subst}
-use mathlib.Core.Bool.{Bool, true, false}
-use mathlib.Core.Logic.{_⊎_, inl, inr}
+use mathlib.Core.Path.{_≡_, sym, ap, _∙_, subst}
+use mathlib.Core.Bool.{Bool}
+use mathlib.Core.Logic.{inl, inr, _↔_}
 use mathlib.Core.List.{List}
-use Prim.Native.Nat.{ℕ, zero, suc, _+_, _-_, _*_, _≤_, _<_}
+use Prim.Native.Nat.{ℕ, suc, _+_, _-_, _*_, _≤_, _<_}
 use native.Mathlib.Omega.{arith}
-use lib.IntN.{ℤ}
-use lib.ListN.{length, getD}
+use lib.ListN.{length}
 use Rattle.std.specs.Orderings.{Decides}
 use Rattle.std.proofs.shelf.Tests.{cases-eq}
-use Rattle.std.proofs.shelf.Ways.{decides-at}
+use Rattle.std.proofs.shelf.Ways.{decides-at, decides-like}
 use Rattle.looping.specs.Words.{word, Loops, Within}
-use Rattle.looping.specs.Logic.{Tree, atom, one, two}
+use Rattle.looping.specs.Logic.{Tree, Sat, atom, one, two}
 use Rattle.looping.specs.Laws.{Truths}
-use Rattle.looping.specs.Columns.{Kept}
+use Rattle.looping.specs.Columns.{On, Kept}
 use Rattle.looping.proofs.Paths.{word-within}
-use Rattle.looping.proofs.Sats.{truths0, truths1, truths2}
+use Rattle.looping.proofs.Sats.{means1, means2}
 use Rattle.property.specs.declared.nodes.Atom.{Atom}
 use Rattle.property.specs.declared.nodes.Node.{Node}
 use Rattle.property.specs.declared.nodes.Node.the-variants.{Atom as Leaf, One, Two}
@@ -57,26 +56,33 @@ module _ (ns : List Node) where
     same-truths : (t : Tree Atom) (x y : ℕ → Bool) → ((j : ℕ) → Within l j → y j ≡ x j) → Truths holds l c t x → Truths holds l c t y
     same-truths t x y e h k = decides-at (y (word l c k)) (x (word l c k)) (e (word l c k) (word-within l c good k)) (h k)
 
-    module _ (old : ℕ → ℕ → Bool) (f : ℕ) (right : Right old f) (new : ℕ → Bool)
-        (made : (j : ℕ) → Within l j → Decides (new j) (Means holds l c (node ns f) old j)) where
-      means : (x : Node) → node ns f ≡ x → (j : ℕ) → Within l j → Decides (new j) (Means holds l c x old j)
-      means x e j w = subst (λ (y : Node). Decides (new j) (Means holds l c y old j)) e (made j w)
+    module _ (column : ℕ → ℕ → Bool) (f : ℕ) (right : Right column f) where
+      -- the column of a side, whose number is lower, says where the side holds
+      side : (s top : ℕ) (p : Tree Atom) → 0 < top → top ≤ f → Spans ns s top p → (k : ℕ) → Sat holds (word l c) p k ↔ On (column (top - 1)) (word l c k)
+      side s top p h b u k =
+          let e : top ≡ suc (top - 1) = omega arith in
+          let d = right (top - 1) (omega arith) s p (subst (λ (m : ℕ). Spans ns s m p) e u) k in
+          (d .1, d .0)
 
-      -- the column of a side, whose number is lower
-      side : (s top : ℕ) (p : Tree Atom) → 0 < top → top ≤ f → Spans ns s top p → Truths holds l c p (old (top - 1))
-      side s top p h b u = let k : top ≡ suc (top - 1) = omega arith in right (top - 1) (omega arith) s p (subst (λ (m : ℕ). Spans ns s m p) k u)
-
-      -- the column of node f
-      pub here : (s : ℕ) (t : Tree Atom) → Spans ns s (suc f) t → Truths holds l c t new
-      here s (atom a) (e, q) = truths0 l c good holds a new (means (Leaf a) (at-top f s (Leaf a) e q))
-      here s (one o p) (top, e, q, u) =
+      -- the tree that ends at node f holds where the node says so of its sides
+      pub sat-means : (s : ℕ) (t : Tree Atom) → Spans ns s (suc f) t → (k : ℕ) → Sat holds (word l c) t k ↔ Means holds l c (node ns f) column (word l c k)
+      sat-means s (atom a) (e, q) k =
+          subst (λ (x : Node). Sat holds (word l c) (atom a) k ↔ Means holds l c x column (word l c k)) (sym (at-top f s (Leaf a) e q)) (λ h. h, λ h. h)
+      sat-means s (one o p) (top, e, q, u) k =
           let g : s < top = grows ns p s top u in
-          truths1 l c good holds p (old (top - 1)) (side s top p (omega arith) (omega arith) u) o new (means (One o (top - 1)) (at-top f top (One o (top - 1)) e q))
-      here s (two o p q) (top, mid, e, r, u, v) =
+          subst (λ (x : Node). Sat holds (word l c) (one o p) k ↔ Means holds l c x column (word l c k)) (sym (at-top f top (One o (top - 1)) e q))
+          (means1 l c good holds p (On (column (top - 1))) (side s top p (omega arith) (omega arith) u) o k)
+      sat-means s (two o p q) (top, mid, e, r, u, v) k =
           let g : s < mid = grows ns p s mid u in
           let h : mid < top = grows ns q mid top v in
-          truths2 l c good holds p (old (mid - 1)) (side s mid p (omega arith) (omega arith) u) q (old (top - 1)) (side mid top q (omega arith) (omega arith) v) o new
-          (means (Two o (mid - 1) (top - 1)) (at-top f top (Two o (mid - 1) (top - 1)) e r))
+          subst (λ (x : Node). Sat holds (word l c) (two o p q) k ↔ Means holds l c x column (word l c k)) (sym (at-top f top (Two o (mid - 1) (top - 1)) e r))
+          (means2 l c good holds p (On (column (mid - 1))) (side s mid p (omega arith) (omega arith) u) q (On (column (top - 1))) (side mid top q (omega arith) (omega arith) v) o k)
+
+      -- a column that says so is the node's
+      pub here : (new : ℕ → Bool) → ((j : ℕ) → Within l j → Decides (new j) (Means holds l c (node ns f) column j)) → (s : ℕ) (t : Tree Atom) → Spans ns s (suc f) t → Truths holds l c t new
+      here new made s t u k =
+          let i = sat-means s t u k in
+          decides-like (new (word l c k)) (i .1) (i .0) (made (word l c k) (word-within l c good k))
 
     pub right-more : (old new : List Bool) (f : ℕ)
         → ((j : ℕ) → Within l j → Decides (spot new (length ns) f j) (Means holds l c (node ns f) (spot old (length ns)) j))

@@ -1,29 +1,34 @@
 -- Whole lists of nodes.
-use mathlib.Core.Path.{_≡_, refl, sym, ap, _∙_, subst}
-use mathlib.Core.Bool.{Bool, true, false}
-use mathlib.Core.Logic.{_⊎_, inl, inr, _≢_}
+use mathlib.Core.Path.{_≡_, refl, sym, subst}
+use mathlib.Core.Bool.{true, false}
+use mathlib.Core.Logic.{inl, inr}
 use mathlib.Core.List.{List}
-use Prim.Native.Nat.{ℕ, zero, suc, _+_, _-_, _≤_, _<_}
+use Prim.Native.Nat.{ℕ, suc, _+_, _-_, _≤_, _<_}
 use native.Mathlib.Omega.{arith}
 use lib.Dec.{eqb}
 use lib.ListN.{length, getD, set}
 use lib.Seq.{getD-set-same, getD-set-other}
+use Rattle.std.specs.Options.{Cases}
 use Rattle.std.specs.Orderings.{Decides}
+use Rattle.std.specs.declared.option.Option.{Option}
+use Rattle.std.specs.declared.option.Option.the-variants.{Some, None}
 use Rattle.std.proofs.shelf.Tests.{cases-eq, eqb-true, eq-eqb, both-ways}
-use Rattle.looping.specs.Logic.{Tree, atom, one, two}
-use Rattle.property.specs.declared.nodes.Atom.{Atom}
-use Rattle.property.specs.declared.nodes.Atom.the-variants.{Truth}
 use Rattle.property.specs.declared.nodes.Node.{Node}
-use Rattle.property.specs.Numbering.{numbered, OneTree, Spans, Rooted, Started}
+use Rattle.property.specs.Numbering.{OneTree, Spans, Rooted, Started}
 use Rattle.property.proofs.Trees.{grows, rooted-same, inside}
 use Rattle.property.proofs.Numbers.{numbered-spans, spans-numbered}
 
+-- an answer that says more says this too
+pub cases-weaker : {P P′ : Type 0} {Q Q′ : ℕ → Type 0} (o : Option ℕ) → (P → P′) → ((x : ℕ) → Q x → Q′ x) → Cases o P Q → Cases o P′ Q′
+cases-weaker None f g h = f h
+cases-weaker (Some x) f g h = g x h
+
 module _ (ns : List Node) where
-  pub below : (starts : List ℕ) (f right : ℕ) → Started ns starts f → 0 < f → right ≡ f - 1 → getD starts right 0 < f
-  below starts f right known h e =
+  -- a known start lies before the node
+  pub below : (starts : List ℕ) (f right : ℕ) → Started ns starts f → suc right ≡ f → getD starts right 0 < f
+  below starts f right known e =
       let r = known right (omega arith) in
-      let g : getD starts right 0 < suc right = grows ns (r .0) (getD starts right 0) (suc right) (r .1) in
-      omega arith
+      subst (λ (b : ℕ). getD starts right 0 < b) e (grows ns (r .0) (getD starts right 0) (suc right) (r .1))
 
   pub started-more : (starts : List ℕ) (f s : ℕ) → f < length starts → Started ns starts f → Rooted ns f s → Started ns (set starts f s) (f + 1)
   started-more starts f s h known r g b =

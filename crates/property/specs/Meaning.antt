@@ -1,15 +1,15 @@
 -- The truths of a property's nodes over a looping run, in one table of values.
 -- Of n signals and m nodes over l steps, signal s at step j is entry (j - 1) * n + s, and node f at step j is entry n * l + (j - 1) * m + f.
 use mathlib.Core.Path.{_≡_}
-use mathlib.Core.Bool.{Bool, true, false}
+use mathlib.Core.Bool.{Bool, false}
 use mathlib.Core.List.{List}
 use mathlib.Core.Logic.{_⊎_}
-use Prim.Native.Nat.{ℕ, zero, suc, _+_, _-_, _*_, _≤_, _<_}
+use Prim.Native.Nat.{ℕ, suc, _+_, _-_, _*_, _≤_, _<_}
 use lib.Dec.{eqb}
 use lib.IntN.{ℤ, pos, negsuc}
 use lib.ListN.{length, getD}
 use lib.Signed.{ltZ}
-use Rattle.looping.specs.Words.{word, Loops}
+use Rattle.looping.specs.Words.{word, Loops, Within}
 use Rattle.looping.specs.Logic.{Tree, Sat}
 use Rattle.property.specs.declared.nodes.Atom.{Atom}
 use Rattle.property.specs.declared.nodes.Atom.the-variants.{Truth, Compare}
@@ -92,3 +92,13 @@ TruthAt ns n l c table f j =
 -- each node has its truth at each step
 abbrev pub Filled : List Node → ℕ → ℕ → ℕ → List ℤ → Type 0
 Filled ns n l c table = (f j : ℕ) → f < length ns → TruthAt ns n l c table f j
+
+-- of the nodes' entries, e is the lowest whose value is not the truth of its node at its step: node f at step j
+pub record LowestWrong (ns : List Node) (n l c : ℕ) (table : List ℤ) (e : ℕ) : Type 0 where
+  pub f : ℕ
+  pub j : ℕ
+  pub known : f < length ns
+  pub step : Within l j
+  pub entry : e ≡ nodeEntry n (length ns) l f j
+  pub wrong : TruthAt ns n l c table f j → ⊥
+  pub lower : (g i : ℕ) → g < length ns → Within l i → nodeEntry n (length ns) l g i < e → TruthAt ns n l c table g i

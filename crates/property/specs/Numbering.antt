@@ -1,7 +1,8 @@
 -- Trees numbered in a list of nodes: left side first, then the right side, then the node, at every node.
+-- `Leaf` is a node that is an atom.
 use mathlib.Core.Path.{_≡_}
 use mathlib.Core.List.{List, [], _∷_, _++_}
-use Prim.Native.Nat.{ℕ, zero, suc, _+_, _-_, _≤_, _<_}
+use Prim.Native.Nat.{ℕ, suc, _+_, _-_, _≤_, _<_}
 use lib.ListN.{length, getD}
 use Rattle.looping.specs.Logic.{Tree, atom, one, two}
 use Rattle.property.specs.declared.nodes.Atom.{Atom}
@@ -47,3 +48,7 @@ Rooted ns f s = (t : Tree Atom) × Spans ns s (suc f) t
 -- the starts of the trees that end at the first `count` nodes are known
 abbrev pub Started : List Node → List ℕ → ℕ → Type 0
 Started ns starts count = (g : ℕ) → g < count → Rooted ns g (getD starts g 0)
+
+-- the right side ends just before node f, and the left side just before the start of the right one
+abbrev pub SidesBefore : List ℕ → ℕ → ℕ → ℕ → Type 0
+SidesBefore starts f left right = (suc right ≡ f) × (suc left ≡ getD starts right 0)

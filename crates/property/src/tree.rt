@@ -1,12 +1,33 @@
 // Whether a list of nodes is one tree in order.
-ghost use Prim.Native.Nat.{ℕ, _-_, _<_, _≤_};
+ghost use mathlib.Core.Path.{_≡_};
+ghost use Prim.Native.Nat.{ℕ, suc, _-_, _<_, _≤_};
 ghost use lib.Dec.{eqb};
-ghost use lib.ListN.{length};
+ghost use lib.ListN.{length, getD};
 ghost use Rattle.std.specs.Options.{Cases as BySome};
 ghost use Rattle.std.specs.Orderings.{Decides};
-ghost use Rattle.property.specs.Numbering.{nodeLimit, OneTree, Rooted, Started};
+ghost use Rattle.property.specs.Numbering.{nodeLimit, OneTree, Rooted, SidesBefore, Started};
 use crate::nodes::NODES;
 use crate::nodes::Node;
+
+// Where the side starts whose last node comes just before `end`, if its number says so.
+fn start_before(end: usize, side: usize, starts: &[usize]) -> Option<usize>
+    requires { ⌜ end ≤ length (now starts) ⌝ }
+    ensures { λ r. ⌜ BySome r (suc side ≡ end → ⊥) (λ s. (suc side ≡ end) × (s ≡ getD (now (starts .entry)) side 0)) ⌝ }
+{
+    if end == 0 || side != end - 1 {
+        return None;
+    }
+    Some(starts[side])
+}
+
+// Where the left side starts of the two sides that come before f, if their numbers say so.
+fn start_before_both(f: usize, left: usize, right: usize, starts: &[usize]) -> Option<usize>
+    requires { ⌜ f ≤ length (now starts) ⌝ ∗ ⌜ (suc right ≡ f → getD (now starts) right 0 ≤ f) ⌝ }
+    ensures { λ r. ⌜ BySome r (SidesBefore (now (starts .entry)) f left right → ⊥) (λ s. SidesBefore (now (starts .entry)) f left right × (s ≡ getD (now (starts .entry)) left 0)) ⌝ }
+{
+    let middle = start_before(f, right, starts)?;
+    start_before(middle, left, starts)
+}
 
 // Where the tree starts whose last node is f, if there is one.
 fn start_of(nodes: &[Node], f: usize, starts: &[usize]) -> Option<usize>
@@ -15,22 +36,8 @@ fn start_of(nodes: &[Node], f: usize, starts: &[usize]) -> Option<usize>
 {
     match nodes[f] {
         Node::Atom(_) => Some(f),
-        Node::One(_, child) => {
-            if f == 0 || child != f - 1 {
-                return None;
-            }
-            Some(starts[child])
-        }
-        Node::Two(_, left, right) => {
-            if f == 0 || right != f - 1 {
-                return None;
-            }
-            let middle = starts[right];
-            if middle == 0 || left != middle - 1 {
-                return None;
-            }
-            Some(starts[left])
-        }
+        Node::One(_, child) => start_before(f, child, starts),
+        Node::Two(_, left, right) => start_before_both(f, left, right, starts),
     }
 }
 

@@ -1,17 +1,17 @@
 // The truths of a property's nodes at each step of a looping run.
 // With n signals, m nodes and l steps, signal s at step j is entry (j - 1) * n + s of the table, and node f at step j is entry
 // n * l + (j - 1) * m + f. After step l comes step `back`.
-ghost use mathlib.Core.Bool.{Bool, cond, false};
+ghost use mathlib.Core.Bool.{cond};
 ghost use mathlib.Core.Path.{_≡_};
 ghost use Prim.Native.Nat.{ℕ, _+_, _*_, _<_, _≤_};
 ghost use lib.IntN.{pos};
-ghost use lib.ListN.{length, getD};
+ghost use lib.ListN.{length};
 ghost use Rattle.looping.specs.Columns.{at, Kept};
 ghost use Rattle.looping.specs.Words.{Within};
+ghost use Rattle.std.specs.Options.{Cases as BySome};
 ghost use Rattle.std.specs.Orderings.{Decides};
-ghost use Rattle.property.specs.Numbering.{node};
-ghost use Rattle.property.specs.Meaning.{value, signalOf, compares, holdsAt, holds, Fitting, Filled};
-ghost use Rattle.property.specs.ByNode.{spot, Means, Sized, Inside, KeptBeside, Known};
+ghost use Rattle.property.specs.Meaning.{value, signalOf, compares, holdsAt, holds, Fitting, Filled, LowestWrong};
+ghost use Rattle.property.specs.ByNode.{spot, Means, Sized, Inside, KeptBeside, Known, Shows, FirstWrong};
 use crate::nodes::Atom;
 use crate::nodes::Comparison;
 use crate::nodes::NODES;
@@ -30,14 +30,14 @@ struct Layout {
     back: usize,
 }
 
-// Whether the value stands so to the number.
-fn compare(comparison: Comparison, value: i16, number: i16) -> bool
-    ensures { λ r. ⌜ r ≡ compares comparison value number ⌝ }
+// Whether the given value stands so to the number.
+fn compare(comparison: Comparison, given: i16, number: i16) -> bool
+    ensures { λ r. ⌜ r ≡ compares comparison given number ⌝ }
 {
     match comparison {
-        Comparison::Equal => value == number,
-        Comparison::Less => value < number,
-        Comparison::Greater => value > number,
+        Comparison::Equal => given == number,
+        Comparison::Less => given < number,
+        Comparison::Greater => given > number,
     }
 }
 
@@ -51,17 +51,17 @@ fn signal_of(atom: Atom) -> u16
     }
 }
 
-// Whether an atom holds where its signal has the value; a bool signal's holds exactly at 1.
-fn atom_holds(atom: Atom, value: i16) -> bool
-    ensures { λ r. ⌜ r ≡ holdsAt atom value ⌝ }
+// Whether an atom holds where its signal has the given value; a bool signal's holds exactly at 1.
+fn atom_holds(atom: Atom, given: i16) -> bool
+    ensures { λ r. ⌜ r ≡ holdsAt atom given ⌝ }
 {
     match atom {
-        Atom::Truth { .. } => value == 1,
+        Atom::Truth { .. } => given == 1,
         Atom::Compare {
             comparison,
             number,
             ..
-        } => compare(comparison, value, number),
+        } => compare(comparison, given, number),
     }
 }
 
@@ -166,7 +166,7 @@ fn number_of(truth: bool) -> i16
 // Writes `count` truths into the table from `start` on, and leaves the other entries.
 fn write_truths(truths: &[bool], start: usize, count: usize, table: &mut [i16])
     requires { ⌜ start + count ≤ length (now table) ⌝ ∗ ⌜ count ≤ length (now truths) ⌝ }
-    ensures written { λ _. ⌜ ((p : ℕ) → p < count → value (now (table .exit)) (start + p) ≡ cond (getD (now (truths .entry)) p false) (pos 1) (pos 0)) ⌝ }
+    ensures written { λ _. ⌜ ((p : ℕ) → p < count → Shows (now (table .exit)) start (now (truths .entry)) p) ⌝ }
     ensures before { λ _. ⌜ ((e : ℕ) → e < start → value (now (table .exit)) e ≡ value (now (table .entry)) e) ⌝ }
     ensures beyond { λ _. ⌜ ((e : ℕ) → start + count ≤ e → value (now (table .exit)) e ≡ value (now (table .entry)) e) ⌝ }
 {
@@ -185,4 +185,33 @@ pub fn fill(nodes: &[Node], signals: usize, steps: usize, back: usize, table: &m
     let mut truths = [false; TRUTHS];
     settle_all(nodes, signals, steps, back, table, &mut truths);
     write_truths(&truths, signals * steps, nodes.len() * steps, table);
+}
+
+// The lowest entry, of `count` from `start` on, that has not its truth.
+fn first_wrong(truths: &[bool], start: usize, count: usize, table: &[i16]) -> Option<usize>
+    requires { ⌜ start + count ≤ length (now table) ⌝ ∗ ⌜ count ≤ length (now truths) ⌝ }
+    ensures { λ r. ⌜ BySome r ((p : ℕ) → p < count → Shows (now (table .entry)) start (now (truths .entry)) p) (λ e. FirstWrong (now (table .entry)) start (now (truths .entry)) count e) ⌝ }
+{
+    for p in 0..count {
+        if table[start + p] != number_of(truths[p]) {
+            return Some(start + p);
+        }
+    }
+    None
+}
+
+// The lowest of the nodes' entries whose value is not the truth that `fill` writes there, or none.
+pub fn check_truths(
+    nodes: &[Node],
+    signals: usize,
+    steps: usize,
+    back: usize,
+    table: &[i16],
+) -> Option<usize>
+    requires { ⌜ Fitting (now nodes) signals steps back (now table) ⌝ }
+    ensures { λ r. ⌜ BySome r (Filled (now (nodes .entry)) signals steps back (now (table .entry))) (λ e. LowestWrong (now (nodes .entry)) signals steps back (now (table .entry)) e) ⌝ }
+{
+    let mut truths = [false; TRUTHS];
+    settle_all(nodes, signals, steps, back, table, &mut truths);
+    first_wrong(&truths, signals * steps, nodes.len() * steps, table)
 }

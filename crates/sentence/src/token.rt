@@ -5,7 +5,7 @@ ghost use lib.ListN.{length, getD};
 ghost use mathlib.Core.Bool.{true, false};
 ghost use Rattle.std.specs.Options.{Cases as BySome};
 ghost use Rattle.text.specs.Words.{digit, nameByte};
-ghost use Rattle.sentence.specs.Tokens.{Blank, Run, Sized};
+ghost use Rattle.sentence.specs.Tokens.{Blank, Run, Sized, letterOf, signOf, Reads};
 use text::name::is_digit;
 use text::name::is_name;
 use text::name::is_name_byte;
@@ -71,7 +71,9 @@ fn run_end(bytes: &[u8], at: usize) -> usize
 }
 
 // The operator that a letter is where it stands alone.
-fn letter(b: u8) -> Option<Operator> {
+fn letter(b: u8) -> Option<Operator>
+    ensures { λ r. ⌜ r ≡ letterOf b ⌝ }
+{
     match char::from(b) {
         'X' => Some(Operator::Next),
         'F' => Some(Operator::Finally),
@@ -82,7 +84,9 @@ fn letter(b: u8) -> Option<Operator> {
 }
 
 // The operator that one byte spells, other than a letter.
-fn sign(b: u8) -> Option<Operator> {
+fn sign(b: u8) -> Option<Operator>
+    ensures { λ r. ⌜ r ≡ signOf b ⌝ }
+{
     match char::from(b) {
         '(' => Some(Operator::Open),
         ')' => Some(Operator::Close),
@@ -100,6 +104,7 @@ fn sign(b: u8) -> Option<Operator> {
 // begins with a digit, and else a name.
 fn word<'a>(bytes: &'a [u8], at: usize, end: usize) -> Option<Token<'a>>
     requires { ⌜ at < end ⌝ ∗ ⌜ end ≤ length (now bytes) ⌝ }
+    ensures { λ r. ⌜ BySome r (Unit {0}) (λ t. Reads (now (bytes .entry)) at end t) ⌝ }
 {
     let text = &bytes[at..end];
     if is_digit(bytes[at]) {

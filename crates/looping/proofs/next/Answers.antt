@@ -1,6 +1,6 @@
-use mathlib.Core.Path.{_≡_, ap, _∙_}
+use mathlib.Core.Path.{ap, _∙_}
 use mathlib.Core.Bool.{false}
-use Prim.Native.Nat.{ℕ, suc, _+_, _-_}
+use Prim.Native.Nat.{_-_}
 use native.Mathlib.Omega.{arith}
 use native.Mathlib.Numerals.{add-one}
 use lib.ListN.{getD}
@@ -15,7 +15,7 @@ loop-i-again c =
     let b = c .args .back in
     let x = c .args .child .now in
     let i = c .loop-i .i in
-    let v = getD x (c .step-after-after .result - 1) false in (
-      at-more (c .loop-i .truths) i v (λ j. at x (after l b j)) (omega arith) (c .loop-i .inv .0) (ap (at x) (c .step-after-after .ensures ∙ ap (after l b) (add-one i))),
+    let v = getD x (c .step-after-following .result - 1) false in (
+      at-more (c .loop-i .truths) i v (λ j. at x (after l b j)) (omega arith) (c .loop-i .inv .0) (ap (at x) (c .step-after-following .ensures ∙ ap (after l b) (add-one i))),
       kept-more l i (c .args .truths .now) (c .loop-i .truths) v (omega arith) (c .loop-i .inv .1),
     )

@@ -1,5 +1,5 @@
-use Rattle.looping.proofs.Book.{book}
+use Rattle.looping.proofs.Holding.{visits-suffice}
 use Rattle.looping.proofs.visits_suffice.Needs as need
 
 pub returns : need.returns
-returns c = book
+returns c = visits-suffice

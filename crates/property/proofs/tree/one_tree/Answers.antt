@@ -1,4 +1,4 @@
-use mathlib.Core.Logic.{_⊎_, inl, inr}
+use mathlib.Core.Logic.{inl, inr}
 use native.Mathlib.Omega.{arith}
 use Rattle.property.specs.Numbering.{OneTree}
 use Rattle.property.proofs.Whole.{some-node, never}

@@ -1,4 +1,4 @@
-use Prim.Native.Nat.{ℕ, _-_, _<_}
+use Prim.Native.Nat.{_-_}
 use native.Mathlib.Omega.{arith}
 use lib.ListN.{length, getD, length-set}
 use Rattle.property.proofs.Whole.{started-more, each-rooted, whole}

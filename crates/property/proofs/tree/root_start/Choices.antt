@@ -1,5 +1,4 @@
 use mathlib.Core.Path.{_≡_}
-use Prim.Native.Nat.{ℕ, _<_}
 use lib.ListN.{length}
 use Rattle.property.specs.Numbering.{Started}
 use Rattle.property.proofs.tree.root_start.Given as given

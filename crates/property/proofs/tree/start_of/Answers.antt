@@ -1,66 +1,39 @@
-use mathlib.Core.Path.{_≡_, refl, sym, ap, _∙_}
-use Prim.Native.Nat.{ℕ, zero, suc, _+_, _-_, _*_, _≤_, _<_}
+use mathlib.Core.Path.{_≡_, sym, subst}
+use Prim.Native.Nat.{suc}
 use native.Mathlib.Omega.{arith}
-use lib.ListN.{length, getD}
-use Rattle.property.specs.Numbering.{Rooted, Started}
-use Rattle.property.proofs.Trees.{grows, rooted-same, make-atom, make-one, make-two, split-one, split-two}
-use Rattle.property.proofs.Whole.{below}
-use borrow.Author.Needs.{needs}
+use lib.ListN.{getD}
+use Rattle.property.specs.Numbering.{Rooted}
+use Rattle.property.proofs.Trees.{rooted-same, make-atom, make-one, make-two, split-one, split-two}
+use Rattle.property.proofs.Whole.{below, cases-weaker}
 use Rattle.property.proofs.tree.start_of.Needs as need
-use Rattle.property.proofs.tree.start_of.Needs.{then-f-eq0·by·then-f-eq0, then-f-eq0·by·else-f-eq0·then-child-f, then-f-eq0-2·by·then-f-eq0-2, then-f-eq0-2·by·else-f-eq0-2·then-right-f, then-middle-eq0·by·then-middle-eq0, then-middle-eq0·by·else-middle-eq0·then-left-middle}
 
 pub returns-in-Atom : need.returns-in-Atom
 returns-in-Atom c = make-atom (c .args .nodes .now) (c .args .f) (c .in-Atom .field-0) (c .in-Atom .is)
 
-pub returns-then-f-eq0 : need.returns-then-f-eq0
-returns-then-f-eq0 c s r =
-    let w = split-one (c .args .nodes .now) (c .args .f) (c .in-One .field-0) (c .in-One .child) s (c .in-One .is) r in
-    elim (c .then-f-eq0 .came) [
-      | then-f-eq0·by·then-f-eq0 v ↦ omega (arith, w .0, v .if-f-eq0 .taken)
-      | then-f-eq0·by·else-f-eq0·then-child-f v ↦ v .if-child-f .taken (w .1)
-    ]
+pub returns-in-One : need.returns-in-One
+returns-in-One c =
+    let ns = c .args .nodes .now in
+    let f = c .args .f in
+    let o = c .in-One .field-0 in
+    let x = c .in-One .child in
+    cases-weaker (c .start-before .result) (λ no s r. no (split-one ns f o x s (c .in-One .is) r))
+    (λ s q. make-one ns f o x s (c .in-One .is) (q .0) (subst (Rooted ns x) (sym (q .1)) (c .pre .1 .1 x (omega (arith, q .0))))) (c .start-before .ensures)
 
-pub returns-else-child-f : need.returns-else-child-f
-returns-else-child-f c =
-    let f : 0 < c .args .f = omega arith in
-    let e : c .in-One .child ≡ c .args .f - 1 = c .if-child-f .left in
-    make-one (c .args .nodes .now) (c .args .f) (c .in-One .field-0) (c .in-One .child) (getD (c .args .starts .now) (c .in-One .child) 0) (c .in-One .is) f e
-    (c .pre .1 .1 (c .in-One .child) (omega arith))
+pub start-before-both-requires : need.start-before-both-requires
+start-before-both-requires c κs =
+    (omega arith, λ e. let h = below (c .args .nodes .now) (c .args .starts .now) (c .args .f) (c .in-Two .right) (c .pre .1 .1) e in omega arith)
 
-pub returns-then-f-eq0-2 : need.returns-then-f-eq0-2
-returns-then-f-eq0-2 c s r =
-    let w = split-two (c .args .nodes .now) (c .args .f) (c .in-Two .field-0) (c .in-Two .left) (c .in-Two .right) s (c .in-Two .is) r in
-    elim (c .then-f-eq0-2 .came) [
-      | then-f-eq0-2·by·then-f-eq0-2 v ↦ omega (arith, w .0, v .if-f-eq0-2 .taken)
-      | then-f-eq0-2·by·else-f-eq0-2·then-right-f v ↦ v .if-right-f .taken (w .1)
-    ]
-
-pub returns-then-middle-eq0 : need.returns-then-middle-eq0
-returns-then-middle-eq0 c s r =
-    let w = split-two (c .args .nodes .now) (c .args .f) (c .in-Two .field-0) (c .in-Two .left) (c .in-Two .right) s (c .in-Two .is) r in
-    let f : 0 < c .args .f = w .0 in
-    let known = c .pre .1 .1 (c .in-Two .right) (omega (arith, w .1)) in
-    let e : w .2 .0 ≡ getD (c .args .starts .now) (c .in-Two .right) 0 = rooted-same (c .args .nodes .now) (c .in-Two .right) (w .2 .0) (getD (c .args .starts .now) (c .in-Two .right) 0) (w .2 .3) known in
-    elim (c .then-middle-eq0 .came) [
-      | then-middle-eq0·by·then-middle-eq0 v ↦ omega (arith, e, w .2 .1, v .if-middle-eq0 .taken)
-      | then-middle-eq0·by·else-middle-eq0·then-left-middle v ↦ v .if-left-middle .taken (w .2 .2 ∙ ap (λ (k : ℕ). k - 1) e)
-    ]
-
-pub offset-starts-left : need.offset-starts-left
-offset-starts-left c =
-    let h = below (c .args .nodes .now) (c .args .starts .now) (c .args .f) (c .in-Two .right) (c .pre .1 .1) (omega arith) (c .if-right-f .left) in
-    let k : c .in-Two .left < length (c .args .starts .now) = omega arith in
-    search needs
-
-pub index-starts-left : need.index-starts-left
-index-starts-left c =
-    let h = below (c .args .nodes .now) (c .args .starts .now) (c .args .f) (c .in-Two .right) (c .pre .1 .1) (omega arith) (c .if-right-f .left) in
-    omega arith
-
-pub returns-else-left-middle : need.returns-else-left-middle
-returns-else-left-middle c =
-    let f : 0 < c .args .f = omega arith in
-    let b = below (c .args .nodes .now) (c .args .starts .now) (c .args .f) (c .in-Two .right) (c .pre .1 .1) f (c .if-right-f .left) in
-    let m : 0 < getD (c .args .starts .now) (c .in-Two .right) 0 = omega arith in
-    make-two (c .args .nodes .now) (c .args .f) (c .in-Two .field-0) (c .in-Two .left) (c .in-Two .right) (getD (c .args .starts .now) (c .in-Two .left) 0) (getD (c .args .starts .now) (c .in-Two .right) 0)
-    (c .in-Two .is) f (c .if-right-f .left) m (c .if-left-middle .left) (c .pre .1 .1 (c .in-Two .right) (omega arith)) (c .pre .1 .1 (c .in-Two .left) (omega arith))
+pub returns-in-Two : need.returns-in-Two
+returns-in-Two c =
+    let ns = c .args .nodes .now in
+    let starts = c .args .starts .now in
+    let f = c .args .f in
+    let o = c .in-Two .field-0 in
+    let x = c .in-Two .left in
+    let y = c .in-Two .right in
+    let right : suc y ≡ f → Rooted ns y (getD starts y 0) = λ e. c .pre .1 .1 y (omega arith) in
+    cases-weaker (c .start-before-both .result)
+    (λ no s r. let w = split-two ns f o x y s (c .in-Two .is) r in no (w .0, rooted-same ns y (suc x) (getD starts y 0) (w .1) (right (w .0))))
+    (λ s q. let h = below ns starts f y (c .pre .1 .1) (q .0 .0) in
+    make-two ns f o x y s (getD starts y 0) (c .in-Two .is) (q .0 .0) (q .0 .1) (right (q .0 .0)) (subst (Rooted ns x) (sym (q .1)) (c .pre .1 .1 x (omega (arith, q .0 .1)))))
+    (c .start-before-both .ensures)

@@ -1,4 +1,4 @@
-use mathlib.Core.Path.{_≡_, sym, subst}
+use mathlib.Core.Path.{sym, subst}
 use Rattle.std.specs.Orderings.{Decides}
 use Rattle.looping.specs.Columns.{at}
 use Rattle.looping.proofs.Alike.{decides1, decides2}

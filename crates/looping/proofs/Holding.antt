@@ -1,12 +1,12 @@
--- The laws of visits.
-use mathlib.Core.Path.{_≡_, refl, sym, ap, _∙_, subst}
-use mathlib.Core.Bool.{Bool, true, false}
-use mathlib.Core.Logic.{_⊎_, inl, inr, _↔_}
-use Prim.Native.Nat.{ℕ, zero, suc, _+_, _-_, _%_, _≤_, _<_}
+-- The laws of visits hold.
+use mathlib.Core.Path.{_≡_, sym, ap, _∙_}
+use mathlib.Core.Bool.{Bool}
+use mathlib.Core.Logic.{inl, inr, _↔_}
+use Prim.Native.Nat.{ℕ, zero, suc, _+_, _-_, _%_, _<_}
 use native.Mathlib.Omega.{arith}
 use native.Mathlib.Nat.{add-suc, add-zero, zero-mod, suc-mod, mod-lt, mod-eq-of-lt, mod-self}
 use Rattle.std.proofs.shelf.Tests.{cases-lt}
-use Rattle.looping.specs.Words.{after, onward, word, visits, visit, Loops, Within}
+use Rattle.looping.specs.Words.{after, word, Loops}
 use Rattle.looping.specs.Logic.{Tree, Sat}
 use Rattle.looping.specs.Laws.{SatStep, VisitLaws, Visits}
 use Rattle.looping.proofs.Paths.{after-below, after-last, word-first, word-within, word-step}
@@ -50,5 +50,5 @@ module _ (l c : ℕ) (good : Loops l c) where
           decided = decided l c good holds;
         }
 
-pub book : Visits
-book l c good holds = laws l c good holds
+pub visits-suffice : Visits
+visits-suffice l c good holds = laws l c good holds
