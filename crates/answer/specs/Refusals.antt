@@ -1,5 +1,5 @@
 -- The number, the place and the letter of each fault.
-use Rattle.std.specs.Prelude.{ℕ, Some, None, Option}
+use Rattle.std.specs.Prelude.{ℕ, Some, None}
 use Rattle.blocks.specs.declared.types.LibraryFault.{LibraryFault}
 use Rattle.blocks.specs.declared.types.LibraryFault.TheVariants.{UnknownKind, NoSuchCount, Unlawful}
 use Rattle.diagram.specs.declared.fault.CaseFault.{CaseFault}

@@ -1,3 +1,5 @@
 // What `why` answers to a case file: a verdict, or a refusal.
+#![tactic(auto)]
+
 pub mod refusal;
 pub mod verdict;

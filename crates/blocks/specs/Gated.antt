@@ -1,15 +1,15 @@
 -- Which sets of pins force a gate.
-use Rattle.std.specs.Prelude.{◌≡◌, ℕ, zero, suc, ◌<◌, ◌≤◌, Bool, true, false, cond, not, ◌&&◌, ◌||◌, ◌≢◌, ◌⊎◌, List, length, get_or, replicate, ℤ, pos, negsuc, Decides, slice_index_or, refl}
+use Rattle.std.specs.Prelude.{◌≡◌, ℕ, zero, suc, ◌<◌, ◌≤◌, Bool, true, false, not, ◌≢◌, List, length, get_or, replicate, ℤ, pos, Decides, slice_index_or, refl}
 use Rattle.std.proofs.Common.{sym, ap, subst, ◌∙◌, inl, inr, ⊎_elim, arith, get_or-set_same, get_or-set_other}
 use Rattle.std.specs.Bool.{beq}
 use Rattle.std.proofs.Math.ListN as ln
-use Rattle.std.proofs.lemmas.List.{get_or-replicate, length-replicate}
+use Rattle.std.proofs.lemmas.List.{get_or-replicate}
 use Rattle.std.proofs.lemmas.Bool.{cases_eq, false≢true}
 use Rattle.std.proofs.lemmas.Bool.Decides.{nat_tests}
 use Rattle.blocks.specs.declared.types.ValueType.TheVariants.{Truth}
 use Rattle.blocks.specs.declared.gates.Gate.{Gate}
 use Rattle.blocks.specs.declared.gates.Gate.TheVariants.{And, Or, Xor, Not, Pass}
-use Rattle.blocks.specs.Blocks.{InType, Lawful, Has, Agree, Forces, of_bool}
+use Rattle.blocks.specs.Blocks.{InType, Lawful, Agree, Forces, of_bool}
 use Rattle.blocks.specs.Filled.{filled, FirstFree}
 use Rattle.blocks.specs.Gates.{is_one, takes, all_one, any_one, odd_ones, holds, gate_result}
 use Rattle.blocks.specs.Forcing.{changed, squeezed, fill_stands}

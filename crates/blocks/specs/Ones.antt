@@ -1,6 +1,6 @@
 -- Ones: a truth as a value, the test of a value, and the three tests of a row with one place more.
-use Rattle.std.specs.Prelude.{◌≡◌, ℕ, suc, ◌+◌, ◌-◌, ◌^◌, ◌<◌, Bool, true, false, cond, not, ◌&&◌, ◌||◌, List, ℤ, pos, negsuc, FitsSigned, ◌==◌, slice_index_or, refl}
-use Rattle.std.proofs.Common.{sym, ap, inl, inr, add-one, arith, of_z}
+use Rattle.std.specs.Prelude.{◌≡◌, ℕ, suc, ◌+◌, ◌-◌, ◌^◌, Bool, true, false, cond, not, ◌&&◌, ◌||◌, List, ℤ, pos, negsuc, FitsSigned, ◌==◌, slice_index_or, refl}
+use Rattle.std.proofs.Common.{inl, inr, add-one, arith, of_z}
 use Rattle.std.specs.Bool.{beq}
 use Rattle.std.specs.Int.{w16}
 use Rattle.std.proofs.lemmas.Bool.{ne_eqb}

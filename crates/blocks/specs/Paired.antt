@@ -1,10 +1,10 @@
 -- The laws of a pair, from those of its two libraries.
-use Rattle.std.specs.Prelude.{◌≡◌, ℕ, ◌+◌, ◌-◌, ◌<◌, ◌≤◌, min, Bool, true, false, cond, List, length, ℤ, Some, None, Option, nat_lt, refl}
+use Rattle.std.specs.Prelude.{◌≡◌, ℕ, ◌-◌, ◌<◌, ◌≤◌, Bool, false, cond, List, length, ℤ, Some, None, Option, nat_lt, refl}
 use Rattle.std.proofs.Common.{sym, subst, ⊎_elim, arith}
 use Rattle.std.proofs.lemmas.Bool.{cases_lt, lt-ltb, le-ltb}
 use Rattle.std.proofs.lemmas.Bool.Decides.{nat_tests}
 use Rattle.blocks.specs.declared.types.ValueType.{ValueType}
-use Rattle.blocks.specs.Blocks.{ShapeOf, unknown_kind, shaped, InType, Lawful, KindCount}
+use Rattle.blocks.specs.Blocks.{ShapeOf, unknown_kind, shaped, InType, KindCount}
 use Rattle.blocks.specs.Pair.{pair_size, pair_shape, pair_function, pair_named}
 
 module _ (m : ℕ) (first second : ℕ → ℕ → ShapeOf) (f g : ℕ → ℕ → List ℤ → ℤ) where

@@ -1,5 +1,5 @@
 -- Where the entries of a step stand.
-use Rattle.std.proofs.Common.{◌≡◌, ℕ, suc, ◌+◌, ◌-◌, ◌*◌, ◌<◌, ◌≤◌, sym, ap, ◌∙◌, add-mul, mul-le-mul_left, mul-suc, arith}
+use Rattle.std.proofs.Common.{◌≡◌, ℕ, suc, ◌+◌, ◌-◌, ◌*◌, ◌<◌, ◌≤◌, add-mul, mul-le-mul_left, mul-suc, arith}
 use Rattle.property.specs.Meaning.{node_entry}
 
 -- the entries of one of l steps end within those of all steps

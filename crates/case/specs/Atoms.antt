@@ -1,5 +1,5 @@
 -- Which atoms fit the signals that they look at.
-use Rattle.std.specs.Prelude.{◌≡◌, ℕ, ◌<◌, ◌≤◌, List, length}
+use Rattle.std.specs.Prelude.{◌≡◌, ℕ, ◌<◌, List, length}
 use Rattle.blocks.specs.Blocks.{InType}
 use Rattle.blocks.specs.declared.types.ValueType.{ValueType}
 use Rattle.blocks.specs.declared.types.ValueType.TheVariants.{Truth, Num}

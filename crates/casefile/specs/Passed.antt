@@ -1,5 +1,5 @@
 -- What holds of a record that was read.
-use Rattle.std.specs.Prelude.{ℕ, ◌≤◌, List, take}
+use Rattle.std.specs.Prelude.{◌≤◌, List, take}
 use Rattle.diagram.specs.Rules.{Rules}
 use Rattle.diagram.specs.declared.signals.Signal.{Signal}
 use Rattle.diagram.specs.declared.signals.Pin.{Pin}

@@ -89,7 +89,7 @@ pub(crate) fn name_start(value: &[u8], from: usize) -> usize
 fn source(value: &[u8], from: usize, of: ValueType) -> Option<Make>
     requires { from ≤ length value.now }
 {
-    if &value[from..] == b"-" {
+    if &value[from..] == b"-".as_slice() {
         return Some(Make::Source(of));
     }
     None

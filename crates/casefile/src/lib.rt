@@ -1,4 +1,6 @@
 // Case files: their lines, their names, and the record that a file is read into.
+#![tactic(auto)]
+
 pub mod cleared;
 pub mod fault;
 mod form;

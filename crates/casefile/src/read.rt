@@ -32,7 +32,7 @@ fn read_version(bytes: &[u8]) -> Result<usize, FileFault>
     ensures { IfOk result (λ at. at ≤ length bytes.now) }
 {
     let Value { start, end } = expect(bytes, 0, 1, b"case=")?;
-    if &bytes[start..end] != b"1" {
+    if &bytes[start..end] != b"1".as_slice() {
         return Err(FileFault::Form { line: 1 });
     }
     Ok(end + 1)

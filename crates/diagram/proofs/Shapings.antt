@@ -1,5 +1,5 @@
 -- What a library's answer for a shape says of the block.
-use Rattle.std.proofs.Common.{◌≡◌, ℕ, ◌+◌, ◌<◌, ◌≤◌, Bool, true, false, List, length, get_or, take, Ok, Err, Decides, sym, refl, ◌∙◌, subst, arith, get_or-take}
+use Rattle.std.proofs.Common.{◌≡◌, ℕ, ◌+◌, ◌<◌, ◌≤◌, Bool, List, length, get_or, Ok, Decides, sym, refl, ◌∙◌, subst, arith, get_or-take}
 use Rattle.blocks.specs.Blocks.{ShapeOf, unknown_kind, no_such_count, shaped, ShapeAnswer}
 use Rattle.blocks.specs.declared.types.ValueType.{ValueType}
 use Rattle.blocks.specs.declared.types.ValueType.TheVariants.{Truth}

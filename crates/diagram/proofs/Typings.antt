@@ -1,5 +1,5 @@
 -- The types of signals, one more at a time.
-use Rattle.std.proofs.Common.{◌≡◌, ℕ, ◌+◌, ◌<◌, ◌≤◌, true, false, ◌≢◌, List, length, get_or, set, Some, None, sym, refl, ◌∙◌, ⊎_elim, arith, get_or-set_other, get_or-set_same, below_more}
+use Rattle.std.proofs.Common.{◌≡◌, ℕ, ◌+◌, ◌<◌, ◌≤◌, true, ◌≢◌, List, length, set, None, refl, arith, get_or-set_other, get_or-set_same, below_more}
 use Rattle.std.proofs.lemmas.Bool.Decides.{nat_tests}
 use Rattle.blocks.specs.Blocks.{ShapeOf, unknown_kind, no_such_count, shaped}
 use Rattle.blocks.specs.declared.types.ValueType.{ValueType}

@@ -1,6 +1,5 @@
 -- The rules of a diagram.
-use Rattle.std.specs.Prelude.{◌≡◌, ℕ, ◌+◌, ◌<◌, ◌≤◌, Bool, true, false, ◌&&◌, List, length, ℤ, pos, nat_le, nat_lt, slice_index_or}
-use Rattle.blocks.specs.declared.types.ValueType.{ValueType}
+use Rattle.std.specs.Prelude.{◌≡◌, ℕ, ◌+◌, ◌<◌, ◌≤◌, Bool, true, false, ◌&&◌, List, length, nat_le, nat_lt, slice_index_or}
 use Rattle.blocks.specs.declared.types.ValueType.TheVariants.{Truth}
 use Rattle.diagram.specs.declared.signals.Signal.{Signal}
 use Rattle.diagram.specs.declared.signals.Signal.TheVariants.{Source, Constant, Delay, Block}

@@ -1,5 +1,5 @@
 -- The types of signals, and which signals fit them.
-use Rattle.std.specs.Prelude.{◌≡◌, ℕ, ◌+◌, ◌<◌, ◌≤◌, Bool, true, false, List, length, Some, None, Option, slice_index_or}
+use Rattle.std.specs.Prelude.{◌≡◌, ℕ, ◌+◌, ◌<◌, true, List, length, Some, None, Option, slice_index_or}
 use Rattle.blocks.specs.Blocks.{ShapeOf, unknown_kind, no_such_count, shaped, InType}
 use Rattle.blocks.specs.declared.types.ValueType.{ValueType}
 use Rattle.blocks.specs.declared.types.ValueType.TheVariants.{Truth}

@@ -28,7 +28,7 @@ fn type_of<L: BlockLibrary>(
     types: &[ValueType],
 ) -> Result<ValueType, LibraryFault>
     requires { (d i : ℕ) → signal ≡ Signal.Delay d i → d < length types.now }
-    ensures { MatchResult result (λ t. HasType (shape lib.now) types.now signal t) (λ e. missing (shape lib.now) signal ≡ Some e) }
+    ensures { MatchResult result (λ t. HasType (L.shape lib.now) types.now signal t) (λ e. missing (L.shape lib.now) signal ≡ Some e) }
 {
     match signal {
         Signal::Source(t) | Signal::Constant(t, _) => Ok(t),
@@ -51,7 +51,7 @@ pub fn types_of<L: BlockLibrary>(
     types: &mut [ValueType],
 ) -> Result<(), BlockFault>
     requires { length d.now.signals.now ≤ length types.old }
-    ensures { MatchResult result (λ _. Typed (shape lib.now) d.now.signals.now types.new (length d.now.signals.now)) (λ e. FirstMissing (shape lib.now) d.now.signals.now e) }
+    ensures { MatchResult result (λ _. Typed (L.shape lib.now) d.now.signals.now types.new (length d.now.signals.now)) (λ e. FirstMissing (L.shape lib.now) d.now.signals.now e) }
 {
     for s in 0..d.signals.len() {
         match type_of(lib, d.signals[s], types) {
@@ -99,7 +99,7 @@ fn block_fits<L: BlockLibrary>(
 ) -> bool
     requires stretch { first + count ≤ length d.now.pins.now }
     requires named { (p : ℕ) → p < count → (pin_at d.now.pins.now (first + p)).signal < length types.now }
-    ensures { Decides result (PinsFit (shape lib.now kind count) types.now d.now.pins.now first) }
+    ensures { Decides result (PinsFit (L.shape lib.now kind count) types.now d.now.pins.now first) }
 {
     match lib.shape_of(kind, count) {
         Ok(shape) => pins_fit(types, d.pins, first as usize, shape),
@@ -111,7 +111,7 @@ fn block_fits<L: BlockLibrary>(
 fn signal_fits<L: BlockLibrary>(lib: &L, d: &Diagram, types: &[ValueType], s: usize) -> bool
     requires below { s < length d.now.signals.now }
     requires size { length d.now.signals.now ≤ length types.now }
-    ensures { Decides result (Fits (shape lib.now) types.now d.now.pins.now (signal_at d.now.signals.now s)) }
+    ensures { Decides result (Fits (L.shape lib.now) types.now d.now.pins.now (signal_at d.now.signals.now s)) }
 {
     match d.signals[s] {
         Signal::Source(_) => true,
@@ -130,7 +130,7 @@ pub fn check_types<L: BlockLibrary>(
     types: &[ValueType],
 ) -> Result<(), BlockFault>
     requires { length d.now.signals.now ≤ length types.now }
-    ensures { MatchResult result (λ _. AllFit (shape lib.now) types.now d.now.signals.now d.now.pins.now) (λ e. FirstMisfit (shape lib.now) types.now d.now.signals.now d.now.pins.now e) }
+    ensures { MatchResult result (λ _. AllFit (L.shape lib.now) types.now d.now.signals.now d.now.pins.now) (λ e. FirstMisfit (L.shape lib.now) types.now d.now.signals.now d.now.pins.now e) }
 {
     for s in 0..d.signals.len() {
         if !signal_fits(lib, d, types, s) {

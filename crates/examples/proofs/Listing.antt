@@ -1,5 +1,5 @@
 -- The rows of the worked examples, and which sets force them.
-use Rattle.std.proofs.Common.{◌≡◌, ℕ, zero, suc, ◌-◌, ◌<◌, ◌≤◌, Bool, true, false, List, [], ◌∷◌, ◌++◌, length, get_or, replicate, ℤ, pos, negsuc, Decides, sym, refl, ap, ◌∙◌, subst, inl, inr, ⊎_elim, arith, length-append}
+use Rattle.std.proofs.Common.{◌≡◌, ℕ, zero, suc, ◌-◌, ◌<◌, ◌≤◌, Bool, true, List, [], ◌∷◌, length, get_or, replicate, ℤ, pos, negsuc, Decides, sym, refl, ◌∙◌, subst, ⊎_elim, arith, length-append}
 use mathlib.Core.Bool.{beq}
 use lib.ListN.{length-replicate}
 use Rattle.std.proofs.lemmas.List.{get_or_append_left, get_or-append_right, get_or_past, get_or-replicate}
@@ -9,7 +9,7 @@ use Rattle.blocks.specs.declared.types.ValueType.{ValueType}
 use Rattle.blocks.specs.declared.types.ValueType.TheVariants.{Truth, Num}
 use Rattle.blocks.specs.declared.gates.Gate.{Gate}
 use Rattle.blocks.specs.declared.gates.Gate.TheVariants.{Xor}
-use Rattle.blocks.specs.Blocks.{InType, Lawful, Forces}
+use Rattle.blocks.specs.Blocks.{InType, Lawful}
 use Rattle.blocks.specs.Filled.{filled}
 use Rattle.blocks.specs.Gates.{holds, gate_result}
 use Rattle.blocks.specs.Forcing.{row_from}

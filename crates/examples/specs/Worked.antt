@@ -1,5 +1,5 @@
 -- Worked examples: the gates are `and` 0, `or` 1, `xor` 2, `not` 3, `pass` 4, the numbers `sum` 0, `max` 1, `min` 2, `mean` 3, `ge` 4, `eq` 5.
-use Rattle.std.specs.Prelude.{◌≡◌, ℕ, ◌-◌, true, false, List, [], ◌∷◌, ◌++◌, length, replicate, ℤ, pos, negsuc, Some, None, codes, Option}
+use Rattle.std.specs.Prelude.{◌≡◌, ◌-◌, true, false, List, [], ◌∷◌, ◌++◌, length, replicate, ℤ, pos, negsuc, Some, None, codes}
 use Rattle.blocks.specs.declared.types.ValueType.TheVariants.{Truth, Num}
 use Rattle.blocks.specs.Blocks.{unknown_kind, no_such_count, shaped}
 use Rattle.blocks.specs.Filled.{filled, FirstFree}

@@ -1,4 +1,6 @@
 // Worked examples of block libraries, proved.
+#![tactic(auto)]
+
 ghost use Rattle.examples.specs.Worked.{WorkedCauses, WorkedValues, WorkedKinds, WorkedRows};
 
 // The causes of five rows.

@@ -1,5 +1,7 @@
 // Truth over a looping run: what it depends on, and how it is filled in, column by column.
 // A column has one truth a step, step i at place i - 1. A run has `steps` steps, and after the last comes step `back`.
+#![tactic(auto)]
+
 ghost use Rattle.std.specs.Prelude.{◌≡◌, ℕ, suc, ◌-◌, ◌<◌, ◌≤◌, length, Decides};
 ghost use Rattle.looping.specs.Words.{after, visits, visit, Loops, Within};
 ghost use Rattle.looping.specs.Columns.{at, On, Kept};

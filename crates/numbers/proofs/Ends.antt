@@ -1,5 +1,5 @@
 -- Which sets of pins force an operation.
-use Rattle.std.proofs.Common.{◌≡◌, ℕ, zero, suc, ◌<◌, ◌≤◌, Bool, true, false, cond, not, ◌≢◌, ◌⊎◌, List, [], ◌∷◌, length, get_or, replicate, ℤ, pos, negsuc, ◌≤ℤ◌, Decides, sym, refl, ap, ◌∙◌, subst, inl, inr, ⊎_elim, arith, get_or-set_other, get_or-set_same}
+use Rattle.std.proofs.Common.{◌≡◌, ℕ, zero, suc, ◌<◌, ◌≤◌, Bool, cond, not, ◌⊎◌, List, ◌∷◌, length, get_or, replicate, ℤ, pos, negsuc, ◌≤ℤ◌, Decides, sym, refl, ap, ◌∙◌, subst, inl, inr, ⊎_elim, arith, get_or-set_other, get_or-set_same}
 use lib.ListN as ln
 use lib.Signed.{le_z, ≤ℤ_refl}
 use Rattle.std.proofs.lemmas.List.{get_or-replicate}
@@ -11,19 +11,22 @@ use Rattle.blocks.specs.Filled.{filled, FirstFree}
 use Rattle.blocks.specs.Forcing.{value_at_pin, changed, squeezed, fill_stands}
 use Rattle.numbers.specs.declared.Operation.{Operation}
 use Rattle.numbers.specs.declared.Operation.TheVariants.{Sum, Max, Min, Mean, Ge, Eq}
-use Rattle.numbers.specs.Numbers.{stopped, Nums, Rising, same_z, number_result}
-use Rattle.numbers.specs.Folds.{joined_rises, sum_rises, max_rises, min_rises}
+use Rattle.numbers.specs.Numbers.{total, stopped, Nums, Rising, same_z, number_result}
+use Rattle.numbers.specs.Folds.{joined_rises, sum_rises, max_rises, min_rises, total_joined, greatest_joined, least_joined}
 use Rattle.numbers.specs.Means.{mean_rises}
 
 stopped_rises : (y z : ℤ) → y ≤ℤ z → stopped y ≤ℤ stopped z
 stopped_rises y z h = grind (arith, ints)
 
+totals_rise : (c : ℕ) (x y : List ℤ) → ((k : ℕ) → k < c → get_or x k (pos 0) ≤ℤ get_or y k (pos 0)) → total c x ≤ℤ total c y
+totals_rise c x y h = rw (total_joined c x, total_joined c y) (joined_rises _ sum_rises (pos 0) (pos 0) (≤ℤ_refl (pos 0)) x y c h)
+
 -- greater pins give no lesser output
 rises : (o : Operation) → Rising o → (c : ℕ) → 0 < c → (x y : List ℤ) → ((k : ℕ) → k < c → get_or x k (pos 0) ≤ℤ get_or y k (pos 0)) → number_result o c x ≤ℤ number_result o c y
-rises Sum _ c some x y h = stopped_rises _ _ (joined_rises _ sum_rises (pos 0) (pos 0) (≤ℤ_refl (pos 0)) x y c h)
-rises Max _ c some x y h = joined_rises _ max_rises _ _ (h 0 some) x y c h
-rises Min _ c some x y h = joined_rises _ min_rises _ _ (h 0 some) x y c h
-rises Mean _ c some x y h = mean_rises _ _ c some (joined_rises _ sum_rises (pos 0) (pos 0) (≤ℤ_refl (pos 0)) x y c h)
+rises Sum _ c some x y h = stopped_rises _ _ (totals_rise c x y h)
+rises Max _ c some x y h = rw (greatest_joined c x, greatest_joined c y) (joined_rises _ max_rises _ _ (h 0 some) x y c h)
+rises Min _ c some x y h = rw (least_joined c x, least_joined c y) (joined_rises _ min_rises _ _ (h 0 some) x y c h)
+rises Mean _ c some x y h = mean_rises _ _ c some (totals_rise c x y h)
 rises Ge n c some x y h = absurd n
 rises Eq n c some x y h = absurd n
 

@@ -1,17 +1,17 @@
 -- The laws of the operations.
-use Rattle.std.proofs.Common.{◌≡◌, ℕ, zero, suc, ◌<◌, ◌≤◌, ◌≢◌, ◌⊎◌, List, length, get_or, replicate, ℤ, pos, negsuc, ◌+ℤ◌, ◌≤ℤ◌, sym, refl, ap, ◌∙◌, subst, inl, inr, ⊎_elim, arith, get_or-set_other, get_or-set_same}
+use Rattle.std.proofs.Common.{◌≡◌, ℕ, zero, suc, ◌<◌, ◌≤◌, ◌≢◌, ◌⊎◌, List, length, get_or, ℤ, pos, negsuc, ◌+ℤ◌, ◌≤ℤ◌, sym, refl, ap, ◌∙◌, subst, inl, inr, ⊎_elim, arith, get_or-set_other, get_or-set_same}
 use lib.ListN as ln
-use lib.Signed.{le_z, ≤ℤ_refl}
+use lib.Signed.{≤ℤ_refl}
 use Rattle.std.specs.Int.{int_max, int_min}
 use Rattle.std.proofs.lemmas.Int.{ints, by_lt_z}
 use Rattle.std.proofs.lemmas.Bool.{cases_eq}
 use Rattle.blocks.specs.declared.types.ValueType.TheVariants.{Num}
-use Rattle.blocks.specs.Blocks.{InType, Lawful, Has, Forces}
 use Rattle.blocks.specs.Fills.{cases_has}
-use Rattle.blocks.specs.Forcing.{changed, value_at_pin}
-use Rattle.numbers.specs.declared.Operation.TheVariants.{Max, Min, Mean}
+use Rattle.blocks.specs.Forcing.{changed}
+use Rattle.numbers.specs.declared.Operation.TheVariants.{Mean}
 use Rattle.numbers.specs.Laws.{Extreme, MaxIsGreatest, MinIsLeast, MeanNeedsAll}
-use Rattle.numbers.specs.Numbers.{joined, total, number_result}
+use Rattle.numbers.specs.Numbers.{total, number_result}
+use Rattle.numbers.specs.Folds.{joined, greatest_joined, least_joined}
 use Rattle.numbers.specs.Means.{means_apart}
 
 -- ---- the greatest and the least
@@ -46,10 +46,14 @@ min_either : (a x : ℤ) → (int_min a x ≡ a) ⊎ (int_min a x ≡ x)
 min_either a x = by_lt_z x a (λ h. inr (grind (arith, ints))) (λ h. inl (grind (arith, ints)))
 
 pub max_is_greatest : MaxIsGreatest
-max_is_greatest c row some = extreme (λ x v. x ≤ℤ v) int_max ≤ℤ_refl (λ a x. grind (arith, ints)) (λ a x. grind (arith, ints)) (λ a b c p q. omega (arith, ints)) max_either row c some
+max_is_greatest c row some =
+    subst (Extreme (λ x v. x ≤ℤ v) c row) (sym (greatest_joined c row))
+    (extreme (λ x v. x ≤ℤ v) int_max ≤ℤ_refl (λ a x. grind (arith, ints)) (λ a x. grind (arith, ints)) (λ a b c p q. omega (arith, ints)) max_either row c some)
 
 pub min_is_least : MinIsLeast
-min_is_least c row some = extreme (λ x v. v ≤ℤ x) int_min ≤ℤ_refl (λ a x. grind (arith, ints)) (λ a x. grind (arith, ints)) (λ a b c p q. omega (arith, ints)) min_either row c some
+min_is_least c row some =
+    subst (Extreme (λ x v. v ≤ℤ x) c row) (sym (least_joined c row))
+    (extreme (λ x v. v ≤ℤ x) int_min ≤ℤ_refl (λ a x. grind (arith, ints)) (λ a x. grind (arith, ints)) (λ a b c p q. omega (arith, ints)) min_either row c some)
 
 -- ---- the mean
 

@@ -3,11 +3,35 @@ use Rattle.std.specs.Prelude.{◌≡◌, ℕ, zero, suc, ◌+◌, ◌<◌, List,
 use Rattle.std.proofs.Common.{add-one, arith}
 use Rattle.std.specs.Int.{int_max, int_min}
 use Rattle.std.proofs.lemmas.Int.{ints}
-use Rattle.numbers.specs.Numbers.{joined}
+use Rattle.numbers.specs.Numbers.{total, greatest, least}
+
+-- the first n places of a row, joined to a start one after the other
+abbrev pub joined : (ℤ → ℤ → ℤ) → ℤ → ℕ → List ℤ → ℤ
+joined join start zero row = start
+joined join start (suc n) row = join (joined join start n row) (slice_index_or row n (pos 0))
 
 -- one place more
-pub joined_more : (join : ℤ → ℤ → ℤ) (start : ℤ) (n : ℕ) (row : List ℤ) → joined join start (n + 1) row ≡ join (joined join start n row) (slice_index_or row n (pos 0))
-joined_more join start n row = rw add-one refl
+pub total_more : (n : ℕ) (row : List ℤ) → total (n + 1) row ≡ total n row +ℤ slice_index_or row n (pos 0)
+total_more n row = rw add-one refl
+
+pub greatest_more : (n : ℕ) (row : List ℤ) → greatest (n + 1) row ≡ int_max (greatest n row) (slice_index_or row n (pos 0))
+greatest_more n row = rw add-one refl
+
+pub least_more : (n : ℕ) (row : List ℤ) → least (n + 1) row ≡ int_min (least n row) (slice_index_or row n (pos 0))
+least_more n row = rw add-one refl
+
+-- the sum, the greatest and the least of a row's places are joined so
+pub total_joined : (n : ℕ) (row : List ℤ) → total n row ≡ joined ◌+ℤ◌ (pos 0) n row
+total_joined zero row = refl
+total_joined (suc n) row = rw (total_joined n row)
+
+pub greatest_joined : (n : ℕ) (row : List ℤ) → greatest n row ≡ joined int_max (slice_index_or row 0 (pos 0)) n row
+greatest_joined zero row = refl
+greatest_joined (suc n) row = rw (greatest_joined n row)
+
+pub least_joined : (n : ℕ) (row : List ℤ) → least n row ≡ joined int_min (slice_index_or row 0 (pos 0)) n row
+least_joined zero row = refl
+least_joined (suc n) row = rw (least_joined n row)
 
 -- what holds of the start and of each place, and is kept by joining, holds of all joined
 pub joined_keeps : (P : ℤ → Type 0) (join : ℤ → ℤ → ℤ) → ((a x : ℤ) → P a → P x → P (join a x)) → (start : ℤ) → P start → (row : List ℤ) (n : ℕ) → ((k : ℕ) → k < n → P (slice_index_or row k (pos 0))) → P (joined join start n row)

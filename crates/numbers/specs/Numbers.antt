@@ -39,11 +39,6 @@ output_type Mean = Num
 output_type Ge = Truth
 output_type Eq = Truth
 
--- the first n places of a row, joined to a start one after the other
-abbrev pub joined : (ℤ → ℤ → ℤ) → ℤ → ℕ → List ℤ → ℤ
-joined join start zero row = start
-joined join start (suc n) row = join (joined join start n row) (slice_index_or row n (pos 0))
-
 -- the operations that rise with each pin
 abbrev pub Rising : Operation → Type 0
 Rising Sum = Unit {0}

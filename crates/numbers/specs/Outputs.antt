@@ -1,17 +1,17 @@
 -- Outputs of lawful rows are lawful, and their totals can be averaged.
-use Rattle.std.specs.Prelude.{◌≡◌, ℕ, zero, suc, ◌*◌, ◌<◌, ◌≤◌, Bool, true, false, List, replicate, ℤ, pos, negsuc, neg_ℤ, ◌≤ℤ◌, slice_index_or, refl}
-use Rattle.std.proofs.Common.{inl, inr, arith}
+use Rattle.std.specs.Prelude.{◌≡◌, ℕ, zero, suc, ◌*◌, ◌<◌, ◌≤◌, true, List, replicate, ℤ, pos, neg_ℤ, ◌≤ℤ◌, slice_index_or}
+use Rattle.std.proofs.Common.{sym, subst, arith}
 use Rattle.std.specs.Int.{int_max, int_min}
 use Rattle.std.proofs.lemmas.Int.{ints}
 use Rattle.std.proofs.lemmas.Bool.Decides.{nat_tests}
-use Rattle.blocks.specs.declared.types.ValueType.TheVariants.{Truth, Num}
-use Rattle.blocks.specs.Blocks.{InType, Lawful, of_bool}
+use Rattle.blocks.specs.declared.types.ValueType.TheVariants.{Num}
+use Rattle.blocks.specs.Blocks.{InType, Lawful}
 use Rattle.blocks.specs.Forcing.{value_at_pin}
 use Rattle.blocks.specs.Ones.{truth_value}
 use Rattle.numbers.specs.declared.Operation.{Operation}
 use Rattle.numbers.specs.declared.Operation.TheVariants.{Sum, Max, Min, Mean, Ge, Eq}
 use Rattle.numbers.specs.Numbers.{takes, output_type, total, stopped, Spread, number_result}
-use Rattle.numbers.specs.Folds.{joined_keeps}
+use Rattle.numbers.specs.Folds.{joined_keeps, greatest_joined, least_joined}
 use Rattle.numbers.specs.Means.{mean_num}
 
 -- an operation takes two to eight pins
@@ -46,8 +46,10 @@ stopped_num z = (grind (arith, ints), grind (arith, ints))
 
 pub output_lawful : (o : Operation) (c : ℕ) (row : List ℤ) → takes o c ≡ true → Lawful (replicate c Num) row → InType (output_type o) (number_result o c row)
 output_lawful Sum c row e good = stopped_num (total c row)
-output_lawful Max c row e good = joined_keeps (InType Num) int_max max_num _ (value_at_pin Num c row good 0 (omega (arith, takes_two Max c e))) row c (value_at_pin Num c row good)
-output_lawful Min c row e good = joined_keeps (InType Num) int_min min_num _ (value_at_pin Num c row good 0 (omega (arith, takes_two Min c e))) row c (value_at_pin Num c row good)
+output_lawful Max c row e good =
+    subst (InType Num) (sym (greatest_joined c row)) (joined_keeps (InType Num) int_max max_num _ (value_at_pin Num c row good 0 (omega (arith, takes_two Max c e))) row c (value_at_pin Num c row good))
+output_lawful Min c row e good =
+    subst (InType Num) (sym (least_joined c row)) (joined_keeps (InType Num) int_min min_num _ (value_at_pin Num c row good 0 (omega (arith, takes_two Min c e))) row c (value_at_pin Num c row good))
 output_lawful Mean c row e good = mean_num (total c row) c (spread Mean c row e good)
 output_lawful Ge c row e good = truth_value _
 output_lawful Eq c row e good = truth_value _

@@ -1,4 +1,6 @@
 // A library of blocks on numbers: `sum`, `max`, `min`, `mean`, `ge`, `eq`.
+#![tactic(auto)]
+
 ghost use Rattle.std.specs.Prelude.{◌≡◌, ◌≤◌, true, replicate, Decides};
 ghost use Rattle.blocks.specs.Blocks.{Lawful, Forces};
 ghost use Rattle.blocks.specs.Filled.{filled};

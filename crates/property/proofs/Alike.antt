@@ -1,5 +1,5 @@
 -- A tree looks only at its atoms.
-use Rattle.std.proofs.Common.{◌≡◌, ℕ, suc, ◌-◌, ◌<◌, ◌≤◌, Bool, ◌↔◌, List, length, sym, ◌∙◌, inl, inr, arith}
+use Rattle.std.proofs.Common.{◌≡◌, ℕ, suc, ◌<◌, ◌≤◌, Bool, ◌↔◌, List, length, sym, ◌∙◌, inl, inr, arith}
 use Rattle.looping.specs.declared.Unary.TheVariants.{Not, Next, Finally, Globally}
 use Rattle.looping.specs.declared.Binary.TheVariants.{And, Or, Implies, Until}
 use Rattle.looping.specs.Logic.{Tree, Sat, atom, one, two}

@@ -1,5 +1,5 @@
 -- Worked examples, which pin the definitions: the property `READ -> F (TEMP < 5)` over two steps, where the run goes on at step 2.
-use Rattle.std.proofs.Common.{◌≡◌, ℕ, zero, suc, ◌-◌, ◌<◌, true, false, List, [], ◌∷◌, replicate, ℤ, pos, negsuc, Decides, sym, refl, subst, inl, inr, arith}
+use Rattle.std.proofs.Common.{◌≡◌, ℕ, zero, suc, ◌<◌, true, false, List, [], ◌∷◌, replicate, ℤ, pos, negsuc, Decides, sym, refl, subst, inl, inr, arith}
 use Rattle.std.proofs.lemmas.Bool.{false≢true}
 use Rattle.looping.specs.declared.Unary.TheVariants.{Not, Finally}
 use Rattle.looping.specs.declared.Binary.TheVariants.{Implies}

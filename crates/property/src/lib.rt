@@ -1,4 +1,6 @@
 // Properties of looping runs: a property is a tree of nodes, and each node has a truth at each step.
+#![tactic(auto)]
+
 pub mod laws;
 pub mod nodes;
 pub mod tree;

@@ -1,5 +1,5 @@
 -- Filling a table, entry by entry.
-use Rattle.std.proofs.Common.{◌≡◌, ℕ, zero, suc, ◌+◌, ◌*◌, ◌/◌, ◌%◌, ◌<◌, ◌≤◌, Bool, true, false, ◌≢◌, ◌⊎◌, List, length, get_or, set, ℤ, pos, Some, None, Option, sym, refl, ap, ◌∙◌, subst, inl, inr, mod-lt, arith, length-set, get_or-set_other, get_or-set_same}
+use Rattle.std.proofs.Common.{◌≡◌, ℕ, zero, suc, ◌+◌, ◌*◌, ◌/◌, ◌%◌, ◌<◌, ◌≤◌, true, false, ◌≢◌, ◌⊎◌, List, length, set, ℤ, pos, Some, None, Option, sym, refl, ◌∙◌, subst, inl, inr, mod-lt, arith, length-set, get_or-set_other, get_or-set_same}
 use Rattle.std.proofs.lemmas.Bool.{cases_lt, cases_Bool, false≢true, true≢false}
 use Rattle.blocks.specs.Blocks.{InType}
 use Rattle.blocks.specs.declared.types.ValueType.{ValueType}
@@ -9,7 +9,7 @@ use Rattle.diagram.specs.declared.signals.Pin.{Pin}
 use Rattle.diagram.specs.declared.rules.Diagram.{Diagram}
 use Rattle.diagram.specs.Rules.{signal_at, Rules}
 use Rattle.diagram.specs.Typing.{Shapes, type_at}
-use Rattle.run.specs.Values.{value_at, InItsType, AllInType, is_source, SourceEntry, SourcesInType, WellTyped, TypedBelow, SourcesTyped}
+use Rattle.run.specs.Values.{value_at, InItsType, AllInType, is_source, SourceEntry, SourcesInType, TypedBelow, SourcesTyped}
 use Rattle.run.specs.Making.{Functions, makes, made_at, Is, Made, AllMade}
 use Rattle.run.specs.Runs.{FilledFrom, SameSources, Known, FilledIsRun, SourcesDetermine, Outputs, Counted}
 use Rattle.run.proofs.Places.{of_entry}

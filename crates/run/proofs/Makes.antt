@@ -1,14 +1,14 @@
 -- What a diagram makes of an entry looks only at lower entries, and lies in its type.
-use Rattle.std.proofs.Common.{◌≡◌, ℕ, zero, suc, ◌+◌, ◌*◌, ◌/◌, ◌%◌, ◌<◌, ◌≤◌, Bool, true, false, ltb, ◌⊎◌, List, length, get_or, ℤ, pos, ◌-ℤ◌, Some, None, sym, refl, ap, ◌∙◌, subst, inl, inr, suc-mul, arith}
+use Rattle.std.proofs.Common.{◌≡◌, ℕ, zero, suc, ◌+◌, ◌*◌, ◌<◌, ◌≤◌, Bool, true, false, ltb, List, length, get_or, ℤ, pos, ◌-ℤ◌, Some, sym, refl, ap, ◌∙◌, subst, inl, inr, suc-mul, arith}
 use Rattle.std.proofs.lemmas.Nat.{mod-mul-add}
 use Rattle.std.proofs.lemmas.Bool.{and_parts, ltb-true, true≢false}
-use Rattle.blocks.specs.Blocks.{ShapeOf, unknown_kind, no_such_count, shaped, InType, Lawful}
+use Rattle.blocks.specs.Blocks.{ShapeOf, unknown_kind, no_such_count, shaped, InType}
 use Rattle.blocks.specs.declared.types.ValueType.{ValueType}
-use Rattle.blocks.specs.declared.types.ValueType.TheVariants.{Truth, Num}
+use Rattle.blocks.specs.declared.types.ValueType.TheVariants.{Truth}
 use Rattle.diagram.specs.declared.signals.Signal.{Signal}
 use Rattle.diagram.specs.declared.signals.Signal.TheVariants.{Source, Constant, Delay, Block}
 use Rattle.diagram.specs.declared.signals.Pin.{Pin}
-use Rattle.diagram.specs.Rules.{signal_at, pin_at, SignalRules, Rules}
+use Rattle.diagram.specs.Rules.{pin_at, SignalRules}
 use Rattle.diagram.specs.Typing.{Shapes, type_at, Gives, HasType, PinFits, PinsFit, Fits}
 use Rattle.run.specs.Values.{value_at, AllInType, is_source, TypedBelow, TypedBefore}
 use Rattle.run.specs.Making.{Functions, shown, pin_shows, padded, LawfulFor, delay_reads, makes, Is}

@@ -1,5 +1,5 @@
 -- Where the entries of a step stand. With n signals, signal s at step j, counted from 0, is entry j * n + s.
-use Rattle.std.proofs.Common.{◌≡◌, ℕ, suc, ◌+◌, ◌-◌, ◌*◌, ◌/◌, ◌%◌, ◌<◌, ◌≤◌, List, length, ℤ, sym, refl, ap, subst, mul-le-mul_right, suc-mul, mul_comm, arith}
+use Rattle.std.proofs.Common.{◌≡◌, ℕ, suc, ◌+◌, ◌*◌, ◌/◌, ◌%◌, ◌<◌, ◌≤◌, List, length, ℤ, sym, refl, ap, subst, mul-le-mul_right, suc-mul, mul_comm, arith}
 use Rattle.blocks.specs.Blocks.{InType}
 use Rattle.blocks.specs.declared.types.ValueType.{ValueType}
 use Rattle.diagram.specs.declared.signals.Signal.{Signal}

@@ -1,5 +1,5 @@
 -- What a diagram makes of the values of a table, and where its loop closes.
-use Rattle.std.specs.Prelude.{◌≡◌, ℕ, zero, suc, ◌+◌, ◌*◌, ◌/◌, ◌%◌, ◌<◌, ◌≤◌, Bool, true, false, cond, List, map, length, ℤ, pos, ◌-ℤ◌, Some, None, Option, nat_lt}
+use Rattle.std.specs.Prelude.{◌≡◌, ℕ, zero, suc, ◌+◌, ◌*◌, ◌/◌, ◌%◌, ◌<◌, Bool, true, false, cond, List, map, length, ℤ, pos, ◌-ℤ◌, Some, None, Option, nat_lt}
 use Rattle.std.specs.List.{range_with_len}
 use Rattle.blocks.specs.Blocks.{ShapeOf, unknown_kind, no_such_count, shaped, Lawful}
 use Rattle.diagram.specs.declared.signals.Signal.{Signal}

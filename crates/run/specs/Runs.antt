@@ -8,7 +8,7 @@ use Rattle.diagram.specs.declared.signals.Pin.{Pin}
 use Rattle.diagram.specs.Rules.{Rules}
 use Rattle.diagram.specs.Typing.{Shapes}
 use Rattle.run.specs.Values.{value_at, AllInType, SourceEntry, WellTyped, SourcesInType}
-use Rattle.run.specs.Making.{Functions, Made, AllMade, AllClose}
+use Rattle.run.specs.Making.{Functions, AllMade, AllClose}
 
 -- l steps, at most 64, that go on at step c
 pub record StepsFit (l c : ℕ) : Type 0 where

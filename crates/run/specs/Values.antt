@@ -1,5 +1,5 @@
 -- The values of a table, and their types. With n signals, signal s at step j, counted from 0, is entry j * n + s.
-use Rattle.std.specs.Prelude.{◌≡◌, ℕ, ◌+◌, ◌%◌, ◌<◌, ◌≤◌, Bool, true, false, List, length, ℤ, pos, slice_index_or}
+use Rattle.std.specs.Prelude.{◌≡◌, ℕ, ◌+◌, ◌%◌, ◌<◌, Bool, true, false, List, length, ℤ, pos, slice_index_or}
 use Rattle.blocks.specs.Blocks.{InType}
 use Rattle.blocks.specs.declared.types.ValueType.{ValueType}
 use Rattle.diagram.specs.declared.signals.Signal.{Signal}

@@ -10,8 +10,8 @@ use diagram::rules::Diagram;
 // Sets the entries of all signals but the sources, step by step, to what the diagram makes.
 pub fn fill_run<L: BlockLibrary>(lib: &L, d: &Diagram, steps: usize, table: &mut [i16])
     requires table { length d.now.signals.now * steps ≤ length table.old }
-    requires typed { SourcesTyped (shape lib.now) d.now.signals.now d.now.pins.now table.old (length d.now.signals.now * steps) }
-    ensures { FilledFrom (function lib.now) d.now.signals.now d.now.pins.now (length d.now.signals.now * steps) table.old table.new }
+    requires typed { SourcesTyped (L.shape lib.now) d.now.signals.now d.now.pins.now table.old (length d.now.signals.now * steps) }
+    ensures { FilledFrom (L.function lib.now) d.now.signals.now d.now.pins.now (length d.now.signals.now * steps) table.old table.new }
 {
     let n = d.signals.len();
     for j in 0..steps {

@@ -37,8 +37,8 @@ fn row_at(pins: &[Pin], first: u16, count: u8, table: &[i16], start: usize) -> [
 
 // What the library makes of a lawful row.
 fn block_value<L: BlockLibrary>(lib: &L, kind: u16, count: u8, row: [i16; PINS]) -> i16
-    requires { LawfulFor (shape lib.now kind count) row }
-    ensures { result ≡ function lib.now kind count row }
+    requires { LawfulFor (L.shape lib.now kind count) row }
+    ensures { result ≡ L.function lib.now kind count row }
 {
     match lib.value(kind, count, row) {
         Ok(v) => v,
@@ -72,8 +72,8 @@ fn made_block<L: BlockLibrary>(
     requires signal { s < length d.now.signals.now }
     requires block { signal_at d.now.signals.now s ≡ Signal.Block kind first count }
     requires inside { start + s < length table.now }
-    requires typed { TypedBefore (shape lib.now) d.now.signals.now d.now.pins.now table.now start s }
-    ensures { result ≡ function lib.now kind count (padded count (pin_shows d.now.pins.now first table.now start)) }
+    requires typed { TypedBefore (L.shape lib.now) d.now.signals.now d.now.pins.now table.now start s }
+    ensures { result ≡ L.function lib.now kind count (padded count (pin_shows d.now.pins.now first table.now start)) }
 {
     let row = row_at(d.pins, first, count, table, start);
     block_value(lib, kind, count, row)
@@ -89,8 +89,8 @@ pub(crate) fn made<L: BlockLibrary>(
 ) -> Option<i16>
     requires signal { s < length d.now.signals.now }
     requires inside { j * length d.now.signals.now + s < length table.now }
-    requires typed { TypedBelow (shape lib.now) d.now.signals.now d.now.pins.now table.now (j * length d.now.signals.now + s) }
-    ensures { result ≡ makes (function lib.now) (length d.now.signals.now) d.now.pins.now table.now j (signal_at d.now.signals.now s) }
+    requires typed { TypedBelow (L.shape lib.now) d.now.signals.now d.now.pins.now table.now (j * length d.now.signals.now + s) }
+    ensures { result ≡ makes (L.function lib.now) (length d.now.signals.now) d.now.pins.now table.now j (signal_at d.now.signals.now s) }
 {
     let n = d.signals.len();
     match d.signals[s] {
@@ -116,8 +116,8 @@ fn is_made(made: Option<i16>, v: i16) -> bool
 // The lowest entry over the steps whose value is not the one that the diagram makes.
 pub fn not_made<L: BlockLibrary>(lib: &L, d: &Diagram, steps: usize, table: &[i16]) -> Option<usize>
     requires table { length d.now.signals.now * steps ≤ length table.now }
-    requires typed { TypedBelow (shape lib.now) d.now.signals.now d.now.pins.now table.now (length d.now.signals.now * steps) }
-    ensures { MatchOption result (AllMade (function lib.now) d.now.signals.now d.now.pins.now table.now (length d.now.signals.now * steps)) (λ e. FirstUnmade (function lib.now) d.now.signals.now d.now.pins.now table.now (length d.now.signals.now * steps) e) }
+    requires typed { TypedBelow (L.shape lib.now) d.now.signals.now d.now.pins.now table.now (length d.now.signals.now * steps) }
+    ensures { MatchOption result (AllMade (L.function lib.now) d.now.signals.now d.now.pins.now table.now (length d.now.signals.now * steps)) (λ e. FirstUnmade (L.function lib.now) d.now.signals.now d.now.pins.now table.now (length d.now.signals.now * steps) e) }
 {
     let n = d.signals.len();
     for j in 0..steps {

@@ -1,5 +1,5 @@
 -- Where tokens stand.
-use Rattle.std.specs.Prelude.{◌≡◌, ℕ, ◌-◌, ◌<◌, ◌≤◌, Bool, true, false, cond, List, length, Some, None, Option, ◌==◌, ◌≢◌, slice_index, slice_range}
+use Rattle.std.specs.Prelude.{◌≡◌, ℕ, ◌<◌, ◌≤◌, true, false, cond, List, length, Some, None, Option, ◌==◌, ◌≢◌, slice_index, slice_range}
 use Rattle.text.specs.Words.{digit, name_byte, Name as IsName}
 use Rattle.sentence.specs.declared.token.Operator.{Operator}
 use Rattle.sentence.specs.declared.token.Operator.TheVariants.{Open, Close, Not, And, Or, Equal, Less, Greater, Next, Finally, Globally, Until}

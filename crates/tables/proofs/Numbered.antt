@@ -1,13 +1,13 @@
 -- Rows and their numbers.
-use Rattle.std.proofs.Common.{◌≡◌, ℕ, zero, suc, ◌+◌, ◌-◌, ◌*◌, ◌/◌, ◌%◌, ◌^◌, ◌<◌, ◌≤◌, Bool, true, false, cond, ltb, ◌⊎◌, List, map, length, get_or, replicate, ℤ, pos, sym, refl, ap, ◌∙◌, subst, inl, inr, ⊎_elim, mod-eq_of_lt, add-one, arith}
+use Rattle.std.proofs.Common.{◌≡◌, ℕ, zero, suc, ◌+◌, ◌-◌, ◌*◌, ◌/◌, ◌%◌, ◌^◌, ◌<◌, ◌≤◌, Bool, true, false, cond, ltb, List, map, length, get_or, replicate, ℤ, pos, sym, refl, ap, ◌∙◌, subst, inl, inr, ⊎_elim, mod-eq_of_lt, add-one, arith}
 use native.Mathlib.Nat.{add-mul-div_left, two-pow-succ}
 use Rattle.std.specs.List.{range_with_len}
 use Rattle.std.proofs.lemmas.Nat.{pow_pos, pow-add, shr_high, mod-pow-add}
 use Rattle.std.proofs.lemmas.List.FromFn.{length-map-range_with_len, get_or-map-range_with_len}
 use Rattle.std.proofs.lemmas.List.{get_or_past}
-use Rattle.std.proofs.lemmas.Bool.{cases_lt, cases_eq, cases_Bool, lt-ltb, le-ltb}
+use Rattle.std.proofs.lemmas.Bool.{cases_lt, cases_eq, lt-ltb, le-ltb}
 use Rattle.blocks.specs.declared.types.ValueType.TheVariants.{Truth}
-use Rattle.blocks.specs.Blocks.{InType, Lawful, Has, Agree, Forces, of_bool}
+use Rattle.blocks.specs.Blocks.{InType, Lawful, Forces, of_bool}
 use Rattle.blocks.specs.Gates.{is_one}
 use Rattle.blocks.specs.Forcing.{value_at_pin, zero_past_pins, row_from}
 use Rattle.blocks.specs.Ones.{of_bool_same}

@@ -1,6 +1,6 @@
 -- The tables of a library have few pins.
-use Rattle.std.specs.Prelude.{◌≡◌, ℕ, ◌≤◌, true, ◌&&◌, get_or, Some, None, nat_le, nat_lt, slice_index_or}
-use Rattle.std.proofs.Common.{sym, ap, subst, ◌∙◌, ⊎_elim, arith}
+use Rattle.std.specs.Prelude.{◌≡◌, ℕ, ◌≤◌, true, get_or, Some, None, nat_le, nat_lt, slice_index_or}
+use Rattle.std.proofs.Common.{sym, subst, ◌∙◌, ⊎_elim, arith}
 use Rattle.std.proofs.lemmas.Bool.{cases_lt, cond-true, cond-false, lt-ltb, le-ltb, and_parts, leb-true, eqb-true}
 use Rattle.tables.specs.declared.table.Table.{Table}
 use Rattle.tables.specs.declared.held.Tables.{Tables}

@@ -1,4 +1,6 @@
 // A library of given truth tables.
+#![tactic(auto)]
+
 pub mod held;
 pub mod library;
 pub mod table;

@@ -1,6 +1,5 @@
 -- A number is its magnitude, or a minus and a magnitude that is not zero.
-use Rattle.std.proofs.Common.{◌≡◌, ℕ, suc, pred, ◌+◌, ◌-◌, ◌^◌, ◌<◌, ◌≤◌, true, false, List, [], ◌∷◌, length, get_or, drop, ℤ, pos, negsuc, ◌-ℤ◌, ◌≤ℤ◌, decimal, sym, refl, ap, ◌∙◌, subst, arith, w16, to_z, of_z}
-use Rattle.std.specs.Fmt.{signed_decimal}
+use Rattle.std.proofs.Common.{◌≡◌, ℕ, suc, ◌-◌, ◌<◌, true, List, [], ◌∷◌, length, get_or, drop, ℤ, pos, negsuc, ◌-ℤ◌, refl, ap, ◌∙◌, subst, arith, w16, to_z, of_z}
 use Rattle.std.proofs.lemmas.Int.{ints}
 use Rattle.text.specs.Words.{digit}
 use Rattle.text.specs.Decimal.{Magnitude, Number}

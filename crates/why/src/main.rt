@@ -1,4 +1,6 @@
 // Reads a case from standard input, and prints its verdict, or why it is declined.
+#![tactic(auto)]
+
 use answer::refusal::{Refusal, file_refusal};
 use answer::verdict::verdict;
 use anyhow::anyhow;

@@ -1,7 +1,7 @@
 use Rattle.std.proofs.Common.{◌≡◌, ℕ, [], ◌∷◌, pos, negsuc, refl, inl, inr, arith}
 use Rattle.std.proofs.lemmas.Int.{ints}
 use Rattle.blocks.specs.declared.types.ValueType.TheVariants.{Truth, Num}
-use Rattle.blocks.specs.declared.gates.Gate.TheVariants.{And, Or, Xor}
+use Rattle.blocks.specs.declared.gates.Gate.TheVariants.{And, Or}
 use Rattle.blocks.specs.Filled.{filled}
 use Rattle.numbers.specs.declared.Operation.TheVariants.{Sum, Max}
 use Rattle.examples.specs.Worked.{row_of}

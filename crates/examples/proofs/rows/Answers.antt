@@ -1,4 +1,4 @@
-use Rattle.std.proofs.Common.{◌≡◌, ℕ, zero, suc, ◌<◌, refl, arith}
+use Rattle.std.proofs.Common.{ℕ, zero, suc, ◌<◌, refl, arith}
 use Rattle.blocks.specs.Blocks.{Has}
 use Rattle.blocks.specs.Filled.{filled}
 use Rattle.tables.specs.Tables.{Alike}

@@ -9,7 +9,7 @@ use Rattle.looping.proofs.two.Goals as goal
 pub returns-in-Until : goal.returns-in-Until
 returns-in-Until c =
     record {
-      means = λ i w. subst (λ (o : Binary). Decides (at c.sweep-twice.new.truths i) (Means2 o c.args.steps c.args.back (On (at c.args.left.now)) (On (at c.args.right.now)) i)) (sym c.in-Until.is)
-          (Decides-at _ _ (c.sweep-twice.ensures.made i w) (until_swept c.args.steps c.args.back c.requires.1.1.1 (at c.args.left.now) (at c.args.right.now) i w));
-      kept = c.sweep-twice.ensures.kept;
+      means = λ i w. subst (λ (o : Binary). Decides (at c.sweep_twice.new.truths i) (Means2 o c.args.steps c.args.back (On (at c.args.left.now)) (On (at c.args.right.now)) i)) (sym c.in-Until.is)
+          (Decides-at _ _ (c.sweep_twice.ensures.made i w) (until_swept c.args.steps c.args.back c.requires.1.1.1 (at c.args.left.now) (at c.args.right.now) i w));
+      kept = c.sweep_twice.ensures.kept;
     }

@@ -11,7 +11,7 @@ use Rattle.numbers.proofs.eq_forced.Goals as goal
 pub returns : goal.returns
 returns c =
     let few = takes_few _ _ c.requires.takes in
-    subst (λ o. Decides c.is-none.result (Forces (replicate c.args.count Num) (number_result o c.args.count) c.args.row c.args.pins)) (sym c.requires.eq)
-    (needs_all c.args.count c.args.pins c.free-pin.result c.is-none.result _ c.free-pin.ensures c.is-none.ensures
+    subst (λ o. Decides c.is_none.result (Forces (replicate c.args.count Num) (number_result o c.args.count) c.args.row c.args.pins)) (sym c.requires.eq)
+    (needs_all c.args.count c.args.pins c.free_pin.result c.is_none.result _ c.free_pin.ensures c.is_none.ensures
     (λ all. full_forces Num c.args.count c.args.row c.args.pins few c.requires.lawful all _)
     (eq_free c.args.count c.args.row c.args.pins few (takes_two _ _ c.requires.takes) c.requires.lawful (eqb-true _ 2 (ap (λ o. takes o c.args.count) (sym c.requires.eq) ∙ c.requires.takes))))

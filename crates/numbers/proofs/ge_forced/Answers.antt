@@ -12,6 +12,6 @@ returns c =
     let n = c.args.count in
     let row = c.args.row in
     let pins = c.args.pins in
-    subst (λ o. Decides c.same-at.result (Forces (replicate n Num) (number_result o n) row pins)) (sym c.requires.ge)
-    (ge_force n row pins (takes_few _ _ c.requires.takes) (takes_two _ _ c.requires.takes) c.requires.lawful c.same-at.result
-    (subst (λ o. Decides c.same-at.result (number_result o n (filled n pins row (negsuc 29999 ∷ replicate 7 (pos 30000))) ≡ number_result o n (filled n pins row (pos 30000 ∷ replicate 7 (negsuc 29999))))) c.requires.ge c.same-at.ensures))
+    subst (λ o. Decides c.same_at.result (Forces (replicate n Num) (number_result o n) row pins)) (sym c.requires.ge)
+    (ge_force n row pins (takes_few _ _ c.requires.takes) (takes_two _ _ c.requires.takes) c.requires.lawful c.same_at.result
+    (subst (λ o. Decides c.same_at.result (number_result o n (filled n pins row (negsuc 29999 ∷ replicate 7 (pos 30000))) ≡ number_result o n (filled n pins row (pos 30000 ∷ replicate 7 (negsuc 29999))))) c.requires.ge c.same_at.ensures))

@@ -9,7 +9,7 @@ use Rattle.blocks.proofs.gates.xor_forced.Goals as goal
 pub returns : goal.returns
 returns c =
     let few = takes_few _ _ c.requires.takes in
-    subst (λ g. Decides c.is-none.result (Forces (replicate c.args.count Truth) (gate_result g c.args.count) c.args.row c.args.pins)) (sym c.requires.xor)
-    (needs_all c.args.count c.args.pins c.free-pin.result c.is-none.result _ c.free-pin.ensures c.is-none.ensures
+    subst (λ g. Decides c.is_none.result (Forces (replicate c.args.count Truth) (gate_result g c.args.count) c.args.row c.args.pins)) (sym c.requires.xor)
+    (needs_all c.args.count c.args.pins c.free_pin.result c.is_none.result _ c.free_pin.ensures c.is_none.ensures
     (λ all. full_forces Truth c.args.count c.args.row c.args.pins few c.requires.lawful all _)
     (xor_free c.args.count c.args.row c.args.pins few (takes_some _ _ c.requires.takes) c.requires.lawful))

@@ -4,12 +4,12 @@ use Rattle.std.proofs.lemmas.Int.{to_z-of_z}
 use Rattle.blocks.proofs.Rows.{lawful_from, typed_at, padded_at}
 use Rattle.blocks.proofs.values.is_lawful.Goals as goal
 
-pub returns-then-not-in-type : goal.returns-then-not-in-type
-returns-then-not-in-type c =
+pub returns-then-not-in_type : goal.returns-then-not-in_type
+returns-then-not-in_type c =
     let p : length c.args.shape.pins ≡ 8 = search rules in
     let f : SFits w16 (get_or c.args.row c.loop-k.k (pos 0)) = search rules in
     let t = typed_at c.args.shape.pins c.args.shape.count c.args.row p in
-    let e = simp to_z-of_z at c.if-not-in-type.ensures.1 in
+    let e = simp to_z-of_z at c.if-not-in_type.ensures.1 in
     (λ e. absurd (false≢true e), λ good. e (t good c.loop-k.k (omega arith) c.if-k-shape.true))
 
 pub returns-then-row-k-ne0 : goal.returns-then-row-k-ne0

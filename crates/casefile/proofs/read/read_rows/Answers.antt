@@ -8,7 +8,7 @@ row_within j n a b =
     let h : j * n ≤ 15 * 128 = mul-le-mul p b in
     omega arith
 
-pub read-row-requires : goal.read-row-requires
-read-row-requires c =
+pub read_row-requires : goal.read_row-requires
+read_row-requires c =
     let h = row_within c.loop-j.j c.args.n (omega arith) (omega arith) in
     record { start = search rules; room = omega arith }

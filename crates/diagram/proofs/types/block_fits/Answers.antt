@@ -1,9 +1,9 @@
-use Rattle.std.proofs.Common.{◌≤◌, arith}
+use Rattle.std.proofs.Common.{arith}
 use Rattle.diagram.proofs.Shapings.{shape_count, fits_block}
 use Rattle.diagram.proofs.types.block_fits.Goals as goal
 
-pub pins-fit-requires : goal.pins-fit-requires
-pins-fit-requires g c =
+pub pins_fit-requires : goal.pins_fit-requires
+pins_fit-requires g c =
     let lib = c.args.lib.now in
     let n = shape_count (g.L.BlockLibrary.shape lib c.args.kind c.args.count) c.in-Ok.shape c.args.count
     (g.met.L.BlockLibrary.counted lib c.args.kind c.args.count) c.in-Ok.ensures in
@@ -12,4 +12,4 @@ pins-fit-requires g c =
 pub returns-in-Ok : goal.returns-in-Ok
 returns-in-Ok g c =
     fits_block (g.L.BlockLibrary.shape c.args.lib.now c.args.kind c.args.count) c.in-Ok.shape c.args.types.now c.args.d.now.pins.now
-    c.args.first c.pins-fit.result c.in-Ok.ensures c.pins-fit.ensures
+    c.args.first c.pins_fit.result c.in-Ok.ensures c.pins_fit.ensures

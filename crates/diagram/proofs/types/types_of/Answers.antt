@@ -1,4 +1,4 @@
-use Rattle.std.proofs.Common.{◌<◌, length, arith, below_more}
+use Rattle.std.proofs.Common.{arith, below_more}
 use Rattle.diagram.specs.Rules.{signal_at}
 use Rattle.diagram.proofs.Typings.{typed_more, typed_none}
 use Rattle.diagram.proofs.types.types_of.Goals as goal

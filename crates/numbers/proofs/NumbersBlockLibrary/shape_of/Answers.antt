@@ -7,5 +7,5 @@ use Rattle.numbers.proofs.NumbersBlockLibrary.shape_of.Goals as goal
 
 pub returns : goal.returns
 returns c =
-    shape_answer takes Num output_type number_result (operation_of c.args.kind) c.args.count _ _ (sym c.operation-at.ensures ∙ c.in-ok-operation.was)
-    (c.uniform.ensures ∙ ap (uniform_shape Num c.args.count) c.output-type.ensures)
+    shape_answer takes Num output_type number_result (operation_of c.args.kind) c.args.count _ _ (sym c.operation_at.ensures ∙ c.in_ok-operation.was)
+    (c.uniform.ensures ∙ ap (uniform_shape Num c.args.count) c.output_type.ensures)

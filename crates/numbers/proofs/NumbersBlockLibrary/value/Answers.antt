@@ -7,22 +7,22 @@ use Rattle.blocks.specs.Uniformly.{value_declined, value_answer, found_is, pins_
 use Rattle.numbers.specs.Numbers.{operation_of, takes, output_type, number_result}
 use Rattle.numbers.proofs.NumbersBlockLibrary.value.Goals as goal
 
-pub returns-then-not-is-lawful : goal.returns-then-not-is-lawful
-returns-then-not-is-lawful c =
-    value_declined takes Num output_type number_result (operation_of c.args.kind) c.args.count _ _ c.args.row _ (sym c.operation-at.ensures ∙ c.in-ok-operation.was)
-    (c.uniform.ensures ∙ ap (uniform_shape Num c.args.count) c.output-type.ensures) c.is-lawful.ensures c.if-not-is-lawful.true
+pub returns-then-not-is_lawful : goal.returns-then-not-is_lawful
+returns-then-not-is_lawful c =
+    value_declined takes Num output_type number_result (operation_of c.args.kind) c.args.count _ _ c.args.row _ (sym c.operation_at.ensures ∙ c.in_ok-operation.was)
+    (c.uniform.ensures ∙ ap (uniform_shape Num c.args.count) c.output_type.ensures) c.is_lawful.ensures c.if-not-is_lawful.true
 
 pub returns : goal.returns
 returns c =
     let f : SFits w16 c.output.result = search rules in
-    simp to_z-of_z (value_answer takes Num output_type number_result (operation_of c.args.kind) c.args.count _ _ c.args.row _ c.output.result (sym c.operation-at.ensures ∙ c.in-ok-operation.was)
-    (c.uniform.ensures ∙ ap (uniform_shape Num c.args.count) c.output-type.ensures) c.is-lawful.ensures c.if-not-is-lawful.false c.output.ensures)
+    simp to_z-of_z (value_answer takes Num output_type number_result (operation_of c.args.kind) c.args.count _ _ c.args.row _ c.output.result (sym c.operation_at.ensures ∙ c.in_ok-operation.was)
+    (c.uniform.ensures ∙ ap (uniform_shape Num c.args.count) c.output_type.ensures) c.is_lawful.ensures c.if-not-is_lawful.false c.output.ensures)
 
 pub output-requires : goal.output-requires
 output-requires c =
-    let was = sym c.operation-at.ensures ∙ c.in-ok-operation.was in
-    let u = c.uniform.ensures ∙ ap (uniform_shape Num c.args.count) c.output-type.ensures in
+    let was = sym c.operation_at.ensures ∙ c.in_ok-operation.was in
+    let u = c.uniform.ensures ∙ ap (uniform_shape Num c.args.count) c.output_type.ensures in
     record {
       takes = (found_is takes Num output_type number_result (operation_of c.args.kind) c.args.count _ was).1;
-      lawful = (pins_at (λ p. Decides c.is-lawful.result (Lawful p c.args.row)) Num c.args.count _ _ u c.is-lawful.ensures).0 c.if-not-is-lawful.false;
+      lawful = (pins_at (λ p. Decides c.is_lawful.result (Lawful p c.args.row)) Num c.args.count _ _ u c.is_lawful.ensures).0 c.if-not-is_lawful.false;
     }

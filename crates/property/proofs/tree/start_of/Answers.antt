@@ -13,11 +13,11 @@ returns-in-One c =
     let f = c.args.f in
     let o = c.in-One.field-0 in
     let x = c.in-One.child in
-    cases_weaker c.start-before.result (λ no s r. no (split_one ns f o x s c.in-One.is r))
-    (λ s q. make_one ns f o x s c.in-One.is q.0 (subst (Rooted ns x) (sym q.1) (c.requires.1.1 x (omega (arith, q.0))))) c.start-before.ensures
+    cases_weaker c.start_before.result (λ no s r. no (split_one ns f o x s c.in-One.is r))
+    (λ s q. make_one ns f o x s c.in-One.is q.0 (subst (Rooted ns x) (sym q.1) (c.requires.1.1 x (omega (arith, q.0))))) c.start_before.ensures
 
-pub start-before-both-requires : goal.start-before-both-requires
-start-before-both-requires c =
+pub start_before_both-requires : goal.start_before_both-requires
+start_before_both-requires c =
     (omega arith, λ e. let h = below c.args.nodes.now c.args.starts.now c.args.f c.in-Two.right c.requires.1.1 e in omega arith)
 
 pub returns-in-Two : goal.returns-in-Two
@@ -29,8 +29,8 @@ returns-in-Two c =
     let x = c.in-Two.left in
     let y = c.in-Two.right in
     let right : suc y ≡ f → Rooted ns y (get_or starts y 0) = λ e. c.requires.1.1 y (omega arith) in
-    cases_weaker c.start-before-both.result
+    cases_weaker c.start_before_both.result
     (λ no s r. let w = split_two ns f o x y s c.in-Two.is r in no (w.0, rooted_same ns y (suc x) (get_or starts y 0) w.1 (right w.0)))
     (λ s q. let h = below ns starts f y c.requires.1.1 q.0.0 in
     make_two ns f o x y s (get_or starts y 0) c.in-Two.is q.0.0 q.0.1 (right q.0.0) (subst (Rooted ns x) (sym q.1) (c.requires.1.1 x (omega (arith, q.0.1)))))
-    c.start-before-both.ensures
+    c.start_before_both.ensures

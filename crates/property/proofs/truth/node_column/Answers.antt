@@ -13,7 +13,7 @@ returns-in-One c =
     let column = spot c.args.truths.now c.args.layout.nodes in
     record {
       means = λ j w. subst (λ (x : Node). Decides (at c.one.new.truths j) (Means (holds c.args.layout.signals c.args.table.now) l b x column j)) (sym c.in-One.is)
-          (decides1 l b c.requires.0.loops (at c.one.new.truths j) (at c.read-column.new.column) (column c.in-One.child) c.read-column.ensures.read c.in-One.op j w (c.one.ensures.means j w));
+          (decides1 l b c.requires.0.loops (at c.one.new.truths j) (at c.read_column.new.column) (column c.in-One.child) c.read_column.ensures.read c.in-One.op j w (c.one.ensures.means j w));
       kept = c.one.ensures.kept;
     }
 
@@ -24,7 +24,7 @@ returns-in-Two c =
     let column = spot c.args.truths.now c.args.layout.nodes in
     record {
       means = λ j w. subst (λ (x : Node). Decides (at c.two.new.truths j) (Means (holds c.args.layout.signals c.args.table.now) l b x column j)) (sym c.in-Two.is)
-          (decides2 l b c.requires.0.loops (at c.two.new.truths j) (at c.read-column-in-Two.new.column) (column c.in-Two.first) (at c.read-column-in-Two-2.new.column) (column c.in-Two.second)
-          c.read-column-in-Two.ensures.read c.read-column-in-Two-2.ensures.read c.in-Two.op j w (c.two.ensures.means j w));
+          (decides2 l b c.requires.0.loops (at c.two.new.truths j) (at c.read_column-in-Two.new.column) (column c.in-Two.first) (at c.read_column-in-Two-2.new.column) (column c.in-Two.second)
+          c.read_column-in-Two.ensures.read c.read_column-in-Two-2.ensures.read c.in-Two.op j w (c.two.ensures.means j w));
       kept = c.two.ensures.kept;
     }

@@ -6,8 +6,8 @@ use Rattle.run.proofs.Makes.{row_lawful, inverted_bool}
 use Rattle.run.proofs.Fills.{rules_of}
 use Rattle.run.proofs.making.made_block.Goals as goal
 
-pub row-at-row-requires : goal.row-at-row-requires
-row-at-row-requires g c =
+pub row_at-row-requires : goal.row_at-row-requires
+row_at-row-requires g c =
     let d = c.args.d.now in
     let s = c.args.s in
     let shapes = g.L.BlockLibrary.shape c.args.lib.now in
@@ -22,8 +22,8 @@ row-at-row-requires g c =
           (g.met.L.BlockLibrary.counted c.args.lib.now c.args.kind c.args.count) d.pins.now c.args.first r.lower fits;
     }
 
-pub block-value-requires : goal.block-value-requires
-block-value-requires g c =
+pub block_value-requires : goal.block_value-requires
+block_value-requires g c =
     let d = c.args.d.now in
     let s = c.args.s in
     let shapes = g.L.BlockLibrary.shape c.args.lib.now in
@@ -32,4 +32,4 @@ block-value-requires g c =
     let fits = subst (λ x. Fits shapes t.types d.pins.now x) c.requires.block (t.well.fits s c.requires.signal) in
     let l = row_lawful t.types c.args.table.now c.args.start s t.values (shapes c.args.kind c.args.count) c.args.count
     (g.met.L.BlockLibrary.counted c.args.lib.now c.args.kind c.args.count) d.pins.now c.args.first r.lower fits in
-    search (rules, c.row-at-row.ensures)
+    search (rules, c.row_at-row.ensures)

@@ -5,14 +5,14 @@ use Rattle.run.specs.Making.{Is}
 use Rattle.run.proofs.Places.{step_within, made_at_lem}
 use Rattle.run.proofs.making.not_made.Goals as goal
 
-pub overflow-mul-start : goal.overflow-mul-start
-overflow-mul-start g c = let h = step_within (length c.args.d.now.signals.now) c.args.steps c.loop-j.j c.loop-j-test.true in search rules
+pub overflow_mul-start : goal.overflow_mul-start
+overflow_mul-start g c = let h = step_within (length c.args.d.now.signals.now) c.args.steps c.loop-j.j c.loop-j-test.true in search rules
 
 pub loop-s-init : goal.loop-s-init
 loop-s-init g c = (step_within (length c.args.d.now.signals.now) c.args.steps c.loop-j.j c.loop-j-test.true, λ e b. c.loop-j.invariant e (omega arith))
 
-pub returns-then-not-is-made : goal.returns-then-not-is-made
-returns-then-not-is-made g c =
+pub returns-then-not-is_made : goal.returns-then-not-is_made
+returns-then-not-is_made g c =
     let n = length c.args.d.now.signals.now in
     let m = made_at_lem (g.L.BlockLibrary.function c.args.lib.now) c.args.d.now.signals.now c.args.d.now.pins.now c.args.table.now c.loop-j.j c.loop-s.s c.loop-s-test.true in
     record {

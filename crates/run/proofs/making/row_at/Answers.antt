@@ -1,4 +1,4 @@
-use Rattle.std.proofs.Common.{◌≡◌, sym, subst, rules}
+use Rattle.std.proofs.Common.{rules}
 use Rattle.run.proofs.Rows.{padded_none, padded_more}
 use Rattle.run.specs.Making.{pin_shows}
 use Rattle.run.proofs.making.row_at.Goals as goal

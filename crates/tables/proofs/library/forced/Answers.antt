@@ -1,15 +1,15 @@
-use Rattle.std.proofs.Common.{◌≡◌, ◌^◌, ◌<◌, ◌≤◌, true, false, get_or, sym, refl, ap, ◌∙◌, subst, arith, below_more}
+use Rattle.std.proofs.Common.{◌≡◌, ◌^◌, ◌<◌, ◌≤◌, false, get_or, sym, refl, ap, ◌∙◌, subst, arith, below_more}
 use Rattle.std.proofs.lemmas.Nat.{one_shl}
 use Rattle.std.proofs.lemmas.Bool.{false≢true, both_ways, not-true, not-false}
 use Rattle.blocks.specs.Ones.{beq_same, same_beq}
-use Rattle.tables.specs.Tables.{Alike, number_of_row}
+use Rattle.tables.specs.Tables.{Alike}
 use Rattle.tables.proofs.Numbered.{same_forces, forces_same}
 use Rattle.tables.proofs.library.forced.Goals as goal
 use Rattle.tables.proofs.library.forced.Goals.{else-alike-via-then-alike+else-table-other, else-alike-via-else-alike}
 
 pub returns-then-table-other : goal.returns-then-table-other
 returns-then-table-other c =
-    let n = c.row-number-number.ensures.0 in
+    let n = c.row_number-number.ensures.0 in
     let h : c.loop-other.other < 2 ^ c.args.count = omega (arith, one_shl c.args.count 64 (omega (arith, c.requires.few))) in
     let like = c.alike.ensures.0 c.if-alike.true in (
       λ e. absurd (false≢true e),
@@ -19,7 +19,7 @@ returns-then-table-other c =
 
 pub loop-other-preserved : goal.loop-other-preserved
 loop-other-preserved c =
-    below_more (λ j. Alike c.args.count c.args.pins c.row-number-number.result j → get_or c.args.table.outputs j false ≡ get_or c.args.table.outputs c.row-number-number.result false)
+    below_more (λ j. Alike c.args.count c.args.pins c.row_number-number.result j → get_or c.args.table.outputs j false ≡ get_or c.args.table.outputs c.row_number-number.result false)
     c.loop-other.other c.loop-other.invariant
     (λ like. elim c.else-alike.branch [
       | else-alike-via-then-alike+else-table-other w ↦ beq_same _ _ (not-false _ w.if-table-other.false)
@@ -28,7 +28,7 @@ loop-other-preserved c =
 
 pub returns : goal.returns
 returns c =
-    let n = c.row-number-number.ensures.0 in
+    let n = c.row_number-number.ensures.0 in
     let e : 2 ^ c.args.count ≤ c.loop-other.other = omega (arith, one_shl c.args.count 64 (omega (arith, c.requires.few))) in (
       λ _. same_forces c.args.table c.args.count c.args.row c.args.pins c.requires.few c.requires.lawful
           (λ j h like. c.loop-other.invariant j (omega arith) (subst (λ m. Alike c.args.count c.args.pins m j) (sym n) like) ∙ ap (λ m. get_or c.args.table.outputs m false) n),

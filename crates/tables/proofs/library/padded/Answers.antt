@@ -1,4 +1,4 @@
-use Rattle.std.proofs.Common.{◌≡◌, ◌<◌, length, get_or, set, refl, ap, ◌∙◌, arith}
+use Rattle.std.proofs.Common.{◌<◌, get_or, set, refl, ap, ◌∙◌, arith}
 use Rattle.tables.specs.Rules.{absent, blank}
 use Rattle.tables.proofs.Padding.{copied_more, copied_all}
 use Rattle.tables.proofs.library.padded.Goals as goal

@@ -1,8 +1,7 @@
-use Rattle.std.proofs.Common.{◌≡◌, ◌+◌, ◌^◌, true, false, cond, get_or, pos, sym, ap, ◌∙◌, add-one, arith, w16, SFits, rules}
+use Rattle.std.proofs.Common.{◌≡◌, ◌+◌, ◌^◌, cond, get_or, pos, sym, ap, ◌∙◌, add-one, arith, w16, SFits, rules}
 use native.Mathlib.Nat.{two-pow-succ}
 use Rattle.std.proofs.lemmas.Nat.{one_shl, pow_pos}
 use Rattle.std.proofs.lemmas.Bool.{eq-eqb, ne_eqb}
-use Rattle.blocks.specs.Gates.{is_one}
 use Rattle.blocks.specs.Ones.{one_bits}
 use Rattle.tables.proofs.Numbered.{number_more}
 use Rattle.tables.proofs.library.row_number.Goals as goal

@@ -1,9 +1,8 @@
-use Rattle.std.proofs.Common.{◌≡◌, ℕ, ◌+◌, ◌*◌, ◌^◌, ◌<◌, ◌≤◌, true, false, List, length, get_or, take, sym, refl, ◌∙◌, subst, inl, inr, add-one, arith, length-take, rules}
+use Rattle.std.proofs.Common.{◌≡◌, ℕ, ◌+◌, ◌*◌, ◌^◌, ◌<◌, ◌≤◌, List, length, get_or, take, sym, ◌∙◌, subst, inl, inr, arith, length-take}
 use Rattle.std.specs.Str.Parse.{AllDigits, digits_value}
 use Rattle.std.proofs.lemmas.Bool.{false≢true}
 use Rattle.std.proofs.lemmas.List.{take_all}
 use Rattle.std.proofs.lemmas.Int.Digits.{digits_more, digits_value_more, digits_value-lt}
-use Rattle.text.specs.Decimal.{Magnitude}
 use Rattle.text.proofs.Magnitudes.{some, five, no_zero_first, all_digits, value_is, magnitude_from, digit_value}
 use Rattle.text.proofs.number.read_magnitude.Goals as goal
 
@@ -22,15 +21,15 @@ pub returns-then-length-gt1 : goal.returns-then-length-gt1
 returns-then-length-gt1 c n m =
     let e = no_zero_first c.args.bytes.now n m c.if-bytes-eq48.true in omega arith
 
-pub returns-then-not-is-digit : goal.returns-then-not-is-digit
-returns-then-not-is-digit c n m =
-    false≢true (c.if-not-is-digit.ensures ∙ all_digits c.args.bytes.now n m c.loop-b.b-index c.loop-b-test.true)
+pub returns-then-not-is_digit : goal.returns-then-not-is_digit
+returns-then-not-is_digit c n m =
+    false≢true (c.if-not-is_digit.ensures ∙ all_digits c.args.bytes.now n m c.loop-b.b-index c.loop-b-test.true)
 
 pub loop-b-preserved : goal.loop-b-preserved
 loop-b-preserved c =
     let bs = c.args.bytes.now in
     let i = c.loop-b.b-index in
-    let dv = digit_value (get_or bs i 0) (sym c.if-not-is-digit.ensures) in
+    let dv = digit_value (get_or bs i 0) (sym c.if-not-is_digit.ensures) in
     let ds = digits_more 10 bs i c.loop-b-test.true c.loop-b.invariant.0 dv.1 in
     let v = digits_value_more 10 bs i c.loop-b-test.true in
     let e : c.loop-b.n * 10 + c.from.result ≡ digits_value 10 (take (i + 1) bs) = omega (arith, c.loop-b.invariant.1, v, dv.0, c.from.ensures) in

@@ -5,4 +5,4 @@ use Rattle.blocks.specs.Uniformly.{shape_answer}
 use Rattle.blocks.proofs.gates.GatesBlockLibrary.shape_of.Goals as goal
 
 pub returns : goal.returns
-returns c = shape_answer takes Truth (λ _. Truth) gate_result (gate_of c.args.kind) c.args.count _ _ (sym c.gate-at.ensures ∙ c.in-ok--gate.was) c.uniform.ensures
+returns c = shape_answer takes Truth (λ _. Truth) gate_result (gate_of c.args.kind) c.args.count _ _ (sym c.gate_at.ensures ∙ c.in_ok-_gate.was) c.uniform.ensures

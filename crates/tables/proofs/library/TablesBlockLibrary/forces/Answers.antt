@@ -6,18 +6,18 @@ use Rattle.blocks.specs.Uniformly.{found_is, pins_at, forces_declined, forces_an
 use Rattle.tables.specs.FewPins.{few_pins}
 use Rattle.tables.proofs.library.TablesBlockLibrary.forces.Goals as goal
 
-pub returns-then-not-is-asked : goal.returns-then-not-is-asked
-returns-then-not-is-asked c =
-    forces_declined takes Truth (λ _. Truth) table_result (table_of c.args.self.now c.args.kind) c.args.count _ _ c.args.row c.args.pins _ (sym c.table-at.ensures ∙ c.in-ok-table.was)
-    c.uniform.ensures c.is-asked.ensures c.if-not-is-asked.true
+pub returns-then-not-is_asked : goal.returns-then-not-is_asked
+returns-then-not-is_asked c =
+    forces_declined takes Truth (λ _. Truth) table_result (table_of c.args.self.now c.args.kind) c.args.count _ _ c.args.row c.args.pins _ (sym c.table_at.ensures ∙ c.in_ok-table.was)
+    c.uniform.ensures c.is_asked.ensures c.if-not-is_asked.true
 
 pub forced-requires : goal.forced-requires
 forced-requires c = record {
-  few = let f = found_is takes Truth (λ _. Truth) table_result (table_of c.args.self.now c.args.kind) c.args.count _ (sym c.table-at.ensures ∙ c.in-ok-table.was) in few_pins c.args.self.now c.args.kind c.args.count _ f.0 f.1;
-  lawful = ((pins_at (λ p. Decides c.is-asked.result (Asked p c.args.row c.args.pins)) Truth c.args.count _ _ c.uniform.ensures c.is-asked.ensures).0 c.if-not-is-asked.false).0;
+  few = let f = found_is takes Truth (λ _. Truth) table_result (table_of c.args.self.now c.args.kind) c.args.count _ (sym c.table_at.ensures ∙ c.in_ok-table.was) in few_pins c.args.self.now c.args.kind c.args.count _ f.0 f.1;
+  lawful = ((pins_at (λ p. Decides c.is_asked.result (Asked p c.args.row c.args.pins)) Truth c.args.count _ _ c.uniform.ensures c.is_asked.ensures).0 c.if-not-is_asked.false).0;
 }
 
 pub returns : goal.returns
 returns c =
-    forces_answer takes Truth (λ _. Truth) table_result (table_of c.args.self.now c.args.kind) c.args.count _ _ c.args.row c.args.pins _ c.forced.result (sym c.table-at.ensures ∙ c.in-ok-table.was)
-    c.uniform.ensures c.is-asked.ensures c.if-not-is-asked.false c.forced.ensures
+    forces_answer takes Truth (λ _. Truth) table_result (table_of c.args.self.now c.args.kind) c.args.count _ _ c.args.row c.args.pins _ c.forced.result (sym c.table_at.ensures ∙ c.in_ok-table.was)
+    c.uniform.ensures c.is_asked.ensures c.if-not-is_asked.false c.forced.ensures

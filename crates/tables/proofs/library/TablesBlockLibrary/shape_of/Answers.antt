@@ -5,4 +5,4 @@ use Rattle.blocks.specs.Uniformly.{shape_answer}
 use Rattle.tables.proofs.library.TablesBlockLibrary.shape_of.Goals as goal
 
 pub returns : goal.returns
-returns c = shape_answer takes Truth (λ _. Truth) table_result (table_of c.args.self.now c.args.kind) c.args.count _ _ (sym c.table-at.ensures ∙ c.in-ok--table.was) c.uniform.ensures
+returns c = shape_answer takes Truth (λ _. Truth) table_result (table_of c.args.self.now c.args.kind) c.args.count _ _ (sym c.table_at.ensures ∙ c.in_ok-_table.was) c.uniform.ensures
