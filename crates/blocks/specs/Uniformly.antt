@@ -37,6 +37,11 @@ pins_at P pin c out s e p =
     let q : P (take c (uniform_shape pin c out).pins) = subst (λ s. P (take s.count s.pins)) e p in
     subst P (front pin c out) q
 
+-- `is_lawful` at a uniform shape
+pub lawful_at : (pin : ValueType) (c : ℕ) (out : ValueType) (s : Shape) (row : List ℤ) (r : Bool) → s ≡ uniform_shape pin c out
+    → Decides r (Lawful (take s.count s.pins) row) → Decides r (Lawful (replicate c pin) row)
+lawful_at pin c out s row r e d = pins_at (λ p. Decides r (Lawful p row)) pin c out s e d
+
 module _ {O : Type 0} (takes : O → ℕ → Bool) (pin : ValueType) (output : O → ValueType) (result : O → ℕ → List ℤ → ℤ) where
   pub found_is : (k : Option O) (c : ℕ) (o : O) → operation_at takes k c ≡ Ok o → (k ≡ Some o) × (takes o c ≡ true)
   found_is k c o e = grind arith
@@ -72,7 +77,7 @@ module _ {O : Type 0} (takes : O → ℕ → Bool) (pin : ValueType) (output : O
       → Decides r (Lawful (take s.count s.pins) row) → r ≡ false
       → ValueAnswer (shape_at takes pin output k c) (function_at result k c) row (Err Unlawful)
   value_declined k c o s row r e f d n =
-      let l = pins_at (λ p. Decides r (Lawful p row)) pin c (output o) s f d in
+      let l = lawful_at pin c (output o) s row r f d in
       at_found (λ h f. ValueAnswer h f row (Err Unlawful)) k c o e (refl, λ good. false≢true (sym n ∙ l.1 good))
 
   -- the value of a lawful row
@@ -80,15 +85,20 @@ module _ {O : Type 0} (takes : O → ℕ → Bool) (pin : ValueType) (output : O
       → Decides r (Lawful (take s.count s.pins) row) → r ≡ true → v ≡ result o c row
       → ValueAnswer (shape_at takes pin output k c) (function_at result k c) row (Ok v)
   value_answer k c o s row r v e f d y is =
-      let l = pins_at (λ p. Decides r (Lawful p row)) pin c (output o) s f d in
+      let l = lawful_at pin c (output o) s row r f d in
       at_found (λ h f. ValueAnswer h f row (Ok v)) k c o e (l.0 y, is)
 
   -- a block has as many pins as its count says, if its operation takes at most eight
-  pub counted_by : (k : Option O) (c : ℕ) → ((o : O) → k ≡ Some o → takes o c ≡ true → c ≤ 8) → (pins : List ValueType) (out : ValueType)
+  pub counted_where : (k : Option O) (c : ℕ) → ((o : O) → k ≡ Some o → takes o c ≡ true → c ≤ 8) → (pins : List ValueType) (out : ValueType)
       → shape_at takes pin output k c ≡ shaped pins out → (length pins ≡ c) × (c ≤ 8)
-  counted_by k c few pins out e =
+  counted_where k c few pins out e =
       let s = shaped_is k c pins out e in
       (ap length s.3 ∙ length-replicate c pin, few s.0 s.1 s.2)
+
+  -- so it has if no operation takes more than eight
+  pub counted_by : ((o : O) (c : ℕ) → takes o c ≡ true → c ≤ 8) → (k : Option O) (c : ℕ) (pins : List ValueType) (out : ValueType)
+      → shape_at takes pin output k c ≡ shaped pins out → (length pins ≡ c) × (c ≤ 8)
+  counted_by few k c pins out e = counted_where k c (λ o _ t. few o c t) pins out e
 
   -- the output of a lawful row is lawful, if each operation's is
   pub lawful_by : ((o : O) (c : ℕ) (row : List ℤ) → takes o c ≡ true → Lawful (replicate c pin) row → InType (output o) (result o c row))

@@ -171,7 +171,7 @@ impl BlockLibrary for Gates {
 
     ghost sized = { Prim.search rules };
 
-    ghost counted = { λ s k c pins out e. counted_by takes Truth (λ _. Truth) gate_result (gate_of k) c (λ o _ t. takes_few o c t) pins out e };
+    ghost counted = { λ s k c pins out e. counted_by takes Truth (λ _. Truth) gate_result takes_few (gate_of k) c pins out e };
 
     ghost lawful = { Prim.search rules };
 

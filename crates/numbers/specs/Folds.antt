@@ -33,11 +33,6 @@ pub least_joined : (n : ℕ) (row : List ℤ) → least n row ≡ joined int_min
 least_joined zero row = refl
 least_joined (suc n) row = rw (least_joined n row)
 
--- what holds of the start and of each place, and is kept by joining, holds of all joined
-pub joined_keeps : (P : ℤ → Type 0) (join : ℤ → ℤ → ℤ) → ((a x : ℤ) → P a → P x → P (join a x)) → (start : ℤ) → P start → (row : List ℤ) (n : ℕ) → ((k : ℕ) → k < n → P (slice_index_or row k (pos 0))) → P (joined join start n row)
-joined_keeps P join keeps start s row zero each = s
-joined_keeps P join keeps start s row (suc n) each = keeps _ _ (joined_keeps P join keeps start s row n (λ k h. each k (omega arith))) (each n (omega arith))
-
 -- greater numbers give a greater result
 abbrev pub Rises : (ℤ → ℤ → ℤ) → Type 0
 Rises join = (a b x y : ℤ) → a ≤ℤ b → x ≤ℤ y → join a x ≤ℤ join b y

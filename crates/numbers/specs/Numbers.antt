@@ -53,6 +53,10 @@ abbrev pub total : ℕ → List ℤ → ℤ
 total zero row = pos 0
 total (suc n) row = total n row +ℤ slice_index_or row n (pos 0)
 
+-- a sum, stopped at the ends of num
+abbrev pub stopped : ℤ → ℤ
+stopped z = int_max (negsuc 29999) (int_min z (pos 30000))
+
 -- the greatest of the first place and the first n places
 abbrev pub greatest : ℕ → List ℤ → ℤ
 greatest zero row = slice_index_or row 0 (pos 0)
@@ -62,10 +66,6 @@ greatest (suc n) row = int_max (greatest n row) (slice_index_or row n (pos 0))
 abbrev pub least : ℕ → List ℤ → ℤ
 least zero row = slice_index_or row 0 (pos 0)
 least (suc n) row = int_min (least n row) (slice_index_or row n (pos 0))
-
--- a sum, stopped at the ends of num
-abbrev pub stopped : ℤ → ℤ
-stopped z = int_max (negsuc 29999) (int_min z (pos 30000))
 
 -- the mean of c numbers with this sum, rounded toward zero
 unfoldable pub mean_of : ℤ → ℕ → ℤ

@@ -238,7 +238,7 @@ impl BlockLibrary for Numbers {
 
     ghost sized = { Prim.search rules };
 
-    ghost counted = { λ s k c pins out e. counted_by takes Num output_type number_result (operation_of k) c (λ o _ t. takes_few o c t) pins out e };
+    ghost counted = { λ s k c pins out e. counted_by takes Num output_type number_result takes_few (operation_of k) c pins out e };
 
     ghost lawful = { λ s k c pins out row e good. lawful_by takes Num output_type number_result output_lawful (operation_of k) c pins out row e good };
 
