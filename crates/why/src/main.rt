@@ -3,10 +3,10 @@
 
 use answer::refusal::{Refusal, file_refusal};
 use answer::verdict::verdict;
-use anyhow::anyhow;
 use casefile::read::FILE_LIMIT;
 use std::io;
 use std::io::Read;
+use std::process::ExitCode;
 
 // The whole input where a case file may be as long, and one byte more where it is longer.
 fn read_input(rt: &HostRuntime) -> io::Result<Vec<u8>> {
@@ -29,15 +29,15 @@ fn print_refusal(rt: &HostRuntime, refusal: Refusal) -> io::Result<()> {
     }
 }
 
-fn main(rt: HostRuntime) -> anyhow::Result<()> {
+fn main(rt: HostRuntime) -> io::Result<ExitCode> {
     let bytes = read_input(&rt)?;
     match verdict(bytes.as_slice()) {
         Ok(true) => println!(rt; "verdict=holds")?,
         Ok(false) => println!(rt; "verdict=fails")?,
         Err(fault) => {
             print_refusal(&rt, file_refusal(fault))?;
-            return Err(anyhow!("declined"));
+            return Ok(ExitCode::FAILURE);
         }
     }
-    Ok(())
+    Ok(ExitCode::SUCCESS)
 }
