@@ -7,7 +7,4 @@ pub mod Gates
 pub mod Pair
 pub mod Uniformly
 pub mod Gated
-pub mod Forcing
-pub mod Fills
-pub mod Ones
 pub mod Paired

@@ -6,7 +6,7 @@ use Rattle.std.proofs.lemmas.Bool.Decides.{Decides-and, Decides-at, Decides-eqb,
 use Rattle.blocks.specs.declared.types.ValueType.{ValueType}
 use Rattle.blocks.specs.Blocks.{Has, Forces}
 use Rattle.blocks.specs.Laws.{Within}
-use Rattle.blocks.specs.Ones.{beq_same}
+use Rattle.blocks.proofs.Ones.{beq_same}
 use Rattle.examples.specs.Causes.{Cause, member}
 
 abbrev all_below : ℕ → (ℕ → Bool) → Bool

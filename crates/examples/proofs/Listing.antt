@@ -12,8 +12,8 @@ use Rattle.blocks.specs.declared.gates.Gate.TheVariants.{Xor}
 use Rattle.blocks.specs.Blocks.{InType, Lawful}
 use Rattle.blocks.specs.Filled.{filled}
 use Rattle.blocks.specs.Gates.{holds, gate_result}
-use Rattle.blocks.specs.Forcing.{row_from}
-use Rattle.blocks.specs.Gated.{ends_force}
+use Rattle.blocks.proofs.Forcing.{row_from}
+use Rattle.blocks.proofs.GatesForced.{ends_force}
 use Rattle.numbers.specs.declared.Operation.{Operation}
 use Rattle.numbers.specs.Numbers.{Rising, same_z, number_result}
 use Rattle.numbers.proofs.Ends.{rising_force}

@@ -8,11 +8,11 @@ use Rattle.std.proofs.lemmas.Bool.{cases_Bool, cases_eq}
 use Rattle.blocks.specs.declared.types.ValueType.TheVariants.{Num}
 use Rattle.blocks.specs.Blocks.{InType, Lawful, Has, Agree, Forces, of_bool}
 use Rattle.blocks.specs.Filled.{filled, FirstFree}
-use Rattle.blocks.specs.Forcing.{value_at_pin, changed, squeezed, fill_stands}
+use Rattle.blocks.proofs.Forcing.{value_at_pin, changed, squeezed, fill_stands}
 use Rattle.numbers.specs.declared.Operation.{Operation}
 use Rattle.numbers.specs.declared.Operation.TheVariants.{Sum, Max, Min, Mean, Ge, Eq}
 use Rattle.numbers.specs.Numbers.{total, stopped, Nums, Rising, same_z, number_result}
-use Rattle.numbers.specs.Folds.{joined_rises, sum_rises, max_rises, min_rises, total_joined, greatest_joined, least_joined}
+use Rattle.numbers.proofs.Folds.{joined_rises, sum_rises, max_rises, min_rises, total_joined, greatest_joined, least_joined}
 use Rattle.numbers.specs.Means.{mean_rises}
 
 stopped_rises : (y z : ℤ) → y ≤ℤ z → stopped y ≤ℤ stopped z

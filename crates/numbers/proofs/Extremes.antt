@@ -6,12 +6,12 @@ use Rattle.std.specs.Int.{int_max, int_min}
 use Rattle.std.proofs.lemmas.Int.{ints, by_lt_z}
 use Rattle.std.proofs.lemmas.Bool.{cases_eq}
 use Rattle.blocks.specs.declared.types.ValueType.TheVariants.{Num}
-use Rattle.blocks.specs.Fills.{cases_has}
-use Rattle.blocks.specs.Forcing.{changed}
+use Rattle.blocks.proofs.Fills.{cases_has}
+use Rattle.blocks.proofs.Forcing.{changed}
 use Rattle.numbers.specs.declared.Operation.TheVariants.{Mean}
 use Rattle.numbers.specs.Laws.{Extreme, MaxIsGreatest, MinIsLeast, MeanNeedsAll}
 use Rattle.numbers.specs.Numbers.{total, number_result}
-use Rattle.numbers.specs.Folds.{joined, greatest_joined, least_joined}
+use Rattle.numbers.proofs.Folds.{joined, greatest_joined, least_joined}
 use Rattle.numbers.specs.Means.{means_apart}
 
 -- ---- the greatest and the least

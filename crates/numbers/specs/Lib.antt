@@ -1,5 +1,4 @@
 pub mod Numbers
 pub mod Laws
-pub mod Outputs
-pub mod Folds
 pub mod Means
+pub mod Outputs

@@ -9,8 +9,8 @@ use Rattle.std.proofs.lemmas.Bool.{cases_lt, cases_eq, lt-ltb, le-ltb}
 use Rattle.blocks.specs.declared.types.ValueType.TheVariants.{Truth}
 use Rattle.blocks.specs.Blocks.{InType, Lawful, Forces, of_bool}
 use Rattle.blocks.specs.Gates.{is_one}
-use Rattle.blocks.specs.Forcing.{value_at_pin, zero_past_pins, row_from}
-use Rattle.blocks.specs.Ones.{of_bool_same}
+use Rattle.blocks.proofs.Forcing.{value_at_pin, zero_past_pins, row_from}
+use Rattle.blocks.proofs.Ones.{of_bool_same}
 use Rattle.tables.specs.declared.table.Table.{Table}
 use Rattle.tables.specs.Tables.{number_of_row, table_result, Alike}
 

@@ -5,9 +5,8 @@ ghost use Rattle.blocks.specs.Uniform.{operation_at};
 ghost use Rattle.tables.specs.Rules.{blank, good_pins, Pinned, Plain, Every, FirstWith};
 ghost use Rattle.tables.specs.Tables.{NewAnswer, table_of, takes, number_of_row, table_result, Alike, table_shape, table_function};
 ghost use Rattle.blocks.specs.declared.types.ValueType.TheVariants.{Truth};
-ghost use Rattle.blocks.specs.Uniformly.{counted_where, lawful_by};
+ghost use Rattle.blocks.specs.Uniformly.{counted_where};
 ghost use Rattle.tables.specs.FewPins.{few_pins};
-ghost use Rattle.blocks.specs.Ones.{truth_value};
 ghost use Rattle.std.proofs.Common.{rules, arith};
 
 use crate::held::Tables;
@@ -172,7 +171,7 @@ impl BlockLibrary for Tables {
 
     ghost counted = { λ s k c pins out e. counted_where takes Truth (λ _. Truth) table_result (table_of s k) c (λ t found takes. few_pins s k c t found takes) pins out e };
 
-    ghost lawful = { λ s k c pins out row e good. lawful_by takes Truth (λ _. Truth) table_result (λ t c row _ _. truth_value _) (table_of s k) c pins out row e good };
+    ghost lawful = { Prim.search rules };
 
     fn kinds(&self) -> u32 {
         self.count as u32

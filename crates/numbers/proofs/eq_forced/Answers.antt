@@ -2,7 +2,7 @@ use Rattle.std.proofs.Common.{replicate, Decides, sym, ap, ◌∙◌, subst}
 use Rattle.std.proofs.lemmas.Bool.{eqb-true}
 use Rattle.blocks.specs.declared.types.ValueType.TheVariants.{Num}
 use Rattle.blocks.specs.Blocks.{Forces}
-use Rattle.blocks.specs.Forcing.{full_forces, needs_all}
+use Rattle.blocks.proofs.Forcing.{full_forces, needs_all}
 use Rattle.numbers.specs.Numbers.{takes, number_result}
 use Rattle.numbers.specs.Outputs.{takes_few, takes_two}
 use Rattle.numbers.proofs.Ends.{eq_free}

@@ -1,6 +1,6 @@
 use Rattle.std.proofs.Common.{arith}
 use Rattle.std.proofs.lemmas.Int.{to_z-of_z}
-use Rattle.numbers.specs.Folds.{greatest_more}
+use Rattle.numbers.proofs.Folds.{greatest_more}
 use Rattle.numbers.proofs.greatest_of.Goals as goal
 
 pub loop-k-preserved : goal.loop-k-preserved

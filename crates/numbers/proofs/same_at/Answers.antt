@@ -1,7 +1,7 @@
 use Rattle.std.proofs.Common.{◌≤◌, replicate, sym, subst, arith}
 use Rattle.blocks.specs.declared.types.ValueType.TheVariants.{Num}
 use Rattle.blocks.specs.Blocks.{Lawful}
-use Rattle.blocks.specs.Forcing.{fill_lawful}
+use Rattle.blocks.proofs.Forcing.{fill_lawful}
 use Rattle.numbers.specs.Outputs.{takes_few}
 use Rattle.numbers.proofs.same_at.Goals as goal
 

@@ -1,6 +1,6 @@
 use Rattle.std.proofs.Common.{get_or, pos, arith, w16, SFits, rules}
 use Rattle.std.proofs.lemmas.Int.{ints}
-use Rattle.numbers.specs.Folds.{total_more}
+use Rattle.numbers.proofs.Folds.{total_more}
 use Rattle.numbers.proofs.sum_of.Goals as goal
 
 pub overflow_add-sum : goal.overflow_add-sum

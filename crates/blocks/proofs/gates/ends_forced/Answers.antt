@@ -1,6 +1,7 @@
 use Rattle.std.proofs.Common.{ap, ◌∙◌}
 use Rattle.blocks.specs.Gates.{holds}
-use Rattle.blocks.specs.Gated.{takes_few, takes_some, ends_force}
+use Rattle.blocks.specs.Gated.{takes_few}
+use Rattle.blocks.proofs.GatesForced.{takes_some, ends_force}
 use Rattle.blocks.proofs.gates.ends_forced.Goals as goal
 
 pub returns : goal.returns

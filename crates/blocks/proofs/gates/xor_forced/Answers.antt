@@ -2,8 +2,9 @@ use Rattle.std.proofs.Common.{replicate, Decides, sym, subst}
 use Rattle.blocks.specs.declared.types.ValueType.TheVariants.{Truth}
 use Rattle.blocks.specs.Blocks.{Forces}
 use Rattle.blocks.specs.Gates.{gate_result}
-use Rattle.blocks.specs.Forcing.{full_forces, needs_all}
-use Rattle.blocks.specs.Gated.{takes_few, takes_some, xor_free}
+use Rattle.blocks.proofs.Forcing.{full_forces, needs_all}
+use Rattle.blocks.specs.Gated.{takes_few}
+use Rattle.blocks.proofs.GatesForced.{takes_some, xor_free}
 use Rattle.blocks.proofs.gates.xor_forced.Goals as goal
 
 pub returns : goal.returns

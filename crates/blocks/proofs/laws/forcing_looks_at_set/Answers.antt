@@ -1,4 +1,4 @@
-use Rattle.blocks.specs.Forcing.{looks_at_set}
+use Rattle.blocks.proofs.Forcing.{looks_at_set}
 use Rattle.blocks.proofs.laws.forcing_looks_at_set.Goals as goal
 
 pub returns : goal.returns

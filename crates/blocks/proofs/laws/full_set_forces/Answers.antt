@@ -1,4 +1,4 @@
-use Rattle.blocks.specs.Forcing.{full_set_forces}
+use Rattle.blocks.proofs.Forcing.{full_set_forces}
 use Rattle.blocks.proofs.laws.full_set_forces.Goals as goal
 
 pub returns : goal.returns

@@ -1,4 +1,4 @@
-use Rattle.blocks.specs.Forcing.{superset_forces}
+use Rattle.blocks.proofs.Forcing.{superset_forces}
 use Rattle.blocks.proofs.laws.superset_forces.Goals as goal
 
 pub returns : goal.returns

@@ -1,7 +1,7 @@
 use Rattle.std.proofs.Common.{◌≡◌, length, get_or, set, pos, ap, ◌∙◌, arith, w16, SFits, rules}
 use Rattle.std.proofs.lemmas.Int.{to_z-of_z}
 use Rattle.blocks.specs.Filled.{shown_at}
-use Rattle.blocks.specs.Fills.{filled_none, filled_more}
+use Rattle.blocks.proofs.Fills.{filled_none, filled_more}
 use Rattle.blocks.proofs.values.fill.Goals as goal
 
 pub loop-k-init : goal.loop-k-init

@@ -1,7 +1,7 @@
 use Rattle.std.proofs.Common.{◌≡◌, ◌^◌, ◌<◌, ◌≤◌, false, get_or, sym, refl, ap, ◌∙◌, subst, arith, below_more}
 use Rattle.std.proofs.lemmas.Nat.{one_shl}
 use Rattle.std.proofs.lemmas.Bool.{false≢true, both_ways, not-true, not-false}
-use Rattle.blocks.specs.Ones.{beq_same, same_beq}
+use Rattle.blocks.proofs.Ones.{beq_same, same_beq}
 use Rattle.tables.specs.Tables.{Alike}
 use Rattle.tables.proofs.Numbered.{same_forces, forces_same}
 use Rattle.tables.proofs.library.forced.Goals as goal

@@ -2,7 +2,7 @@ use Rattle.std.proofs.Common.{◌≡◌, ◌+◌, ◌^◌, cond, get_or, pos, sy
 use native.Mathlib.Nat.{two-pow-succ}
 use Rattle.std.proofs.lemmas.Nat.{one_shl, pow_pos}
 use Rattle.std.proofs.lemmas.Bool.{eq-eqb, ne_eqb}
-use Rattle.blocks.specs.Ones.{one_bits}
+use Rattle.blocks.proofs.Ones.{one_bits}
 use Rattle.tables.proofs.Numbered.{number_more}
 use Rattle.tables.proofs.library.row_number.Goals as goal
 use Rattle.tables.proofs.library.row_number.Goals.{then-row-k-eq1, else-row-k-eq1}

@@ -9,7 +9,7 @@ use Rattle.blocks.specs.declared.types.ValueType.TheVariants.{Truth}
 use Rattle.blocks.specs.Blocks.{InType, Lawful, Has, Agree, Forces}
 use Rattle.blocks.specs.Filled.{filled, FirstFree}
 use Rattle.blocks.specs.Laws.{SupersetForces, FullForces, LooksAtSet}
-use Rattle.blocks.specs.Fills.{cases_has, filled_eight, filled_free, filled_kept, filled_past}
+use Rattle.blocks.proofs.Fills.{cases_has, filled_eight, filled_free, filled_kept, filled_past}
 
 -- ---- any pin types
 
