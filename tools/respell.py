@@ -3,8 +3,8 @@
 
 Functions, lemmas, fields and constructors of specs/ and proofs/ are in snake case; a dash stays only where it joins the
 names of two functions. Names that a check makes (goals, steps) and names of src/ keep their spelling. It is run once, at
-the top of the repository, right after the toolchain's own script. It ends with status 1 where two names would fall
-together.
+the top of the repository, right after the toolchain's own script, and not again: names that stand already in the new
+spelling are not for it. Where two names would fall together it writes nothing and ends with status 1.
 """
 import collections
 import glob
@@ -89,7 +89,7 @@ def main():
         if len(olds) > 1 or (new in own and new not in renames) or new in made:
             print('fall together:', new, olds)
             fell = 1
-    changed = 0
+    changed = {}
     paths = sources() + sorted(glob.glob('crates/*/src/**/*.rt', recursive=True))
     for path in paths:
         text = open(path, encoding='utf-8').read()
@@ -107,13 +107,16 @@ def main():
             lines.append(TOKEN.sub(lambda m: renames.get(m.group(0), m.group(0)), line))
         new = '\n'.join(lines)
         if new != text:
-            open(path, 'w', encoding='utf-8').write(new)
-            changed += 1
-    print(len(renames), 'names in', changed, 'files')
+            changed[path] = new
+    if fell:
+        return fell
+    for path, new in changed.items():
+        open(path, 'w', encoding='utf-8').write(new)
+    print(len(renames), 'names in', len(changed), 'files')
     if '--list' in sys.argv:
         for old in sorted(renames):
             print(old, renames[old])
-    return fell
+    return 0
 
 
 if __name__ == '__main__':
