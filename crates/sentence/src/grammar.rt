@@ -5,268 +5,225 @@
 //   until   = single | single "U" until
 //   single  = ( "!" | "X" | "F" | "G" ) single | "(" whole ")" | atom
 //   atom    = name [ ( "=" | "<" | ">" ) number ]
-ghost use Rattle.std.specs.Prelude.{◌≡◌, ℕ, ◌+◌, ◌<◌, ◌≤◌, length, IfSome, IfOk};
-ghost use Rattle.sentence.specs.Tokens.{Sized};
-ghost use Rattle.sentence.specs.Steps.{Step};
+ghost use Rattle.std.specs.Prelude.{◌<◌, ◌≤◌, length, IfOk};
+ghost use Rattle.arrayvec.specs.ArrayVec.{array_vec_len};
+ghost use Rattle.sentence.specs.Signs.{comparison_of, prefix_of, Takes};
 
-use crate::terms::{NoSentence, Span, Term, Terms, Test};
-use crate::token::{Operator, Token, next_token, skip_spaces};
+use crate::terms::{NoSentence, Placed, Span, Terms};
+use crate::token::{Operator, Token, skip_spaces};
+use arrayvec::ArrayVec;
 use looping::{Binary, Unary};
-use property::nodes::Comparison;
+use property::nodes::{Atom, Comparison, Node};
+use text::cursor::Cursor;
 use text::number::read_number;
 
-// What a reader has read: the number of its node, and the place after its text.
-#[derive(Clone, Copy)]
-pub struct Reading {
-    pub node: usize,
-    pub next: usize,
-}
+// What a comparison sign says.
+impl TryFrom<Operator> for Comparison {
+    type Error = NoSentence;
 
-// An operator that was met: its place, and the place after it.
-#[derive(Clone, Copy)]
-pub struct Met {
-    pub place: Span,
-    pub next: usize,
-}
+    ghost try_from_gives = { λ o r. Takes (comparison_of o) r };
 
-// The operator wanted, where it is the next token.
-fn meet(bytes: &[u8], from: usize, wanted: Operator) -> Option<Met>
-    requires { from ≤ length bytes.now }
-    ensures { IfSome result (λ m. Sized from (length bytes.now) m.next) }
-{
-    let Some((token, next)) = next_token(bytes, from) else {
-        return None;
-    };
-    let Token::Operator { operator, text, at } = token else {
-        return None;
-    };
-    if operator != wanted {
-        return None;
-    }
-    let place = Span {
-        start: at,
-        length: text.len(),
-    };
-    Some(Met { place, next })
-}
-
-// What a comparison sign says, if it is one.
-fn comparison_of(operator: Operator) -> Option<Comparison> {
-    match operator {
-        Operator::Equal => Some(Comparison::Equal),
-        Operator::Less => Some(Comparison::Less),
-        Operator::Greater => Some(Comparison::Greater),
-        _ => None,
-    }
-}
-
-// The operator that stands before one side, if it is one.
-fn prefix_of(operator: Operator) -> Option<Unary> {
-    match operator {
-        Operator::Not => Some(Unary::Not),
-        Operator::Next => Some(Unary::Next),
-        Operator::Finally => Some(Unary::Finally),
-        Operator::Globally => Some(Unary::Globally),
-        _ => None,
-    }
-}
-
-// The comparison sign that is the next token, if there is one, and the place after it.
-fn meet_comparison(bytes: &[u8], from: usize) -> Option<(Comparison, usize)>
-    requires { from ≤ length bytes.now }
-    ensures { IfSome result (λ p. Sized from (length bytes.now) p.1) }
-{
-    let Some((token, next)) = next_token(bytes, from) else {
-        return None;
-    };
-    let Token::Operator {
-        operator,
-        text: _,
-        at: _,
-    } = token
-    else {
-        return None;
-    };
-    let Some(comparison) = comparison_of(operator) else {
-        return None;
-    };
-    Some((comparison, next))
-}
-
-// The number that is the next token, and the place after it.
-fn number(bytes: &[u8], from: usize) -> Result<(i16, usize), NoSentence>
-    requires { from ≤ length bytes.now }
-    ensures { IfOk result (λ p. Sized from (length bytes.now) p.1) }
-{
-    let Some((token, next)) = next_token(bytes, from) else {
-        return Err(NoSentence);
-    };
-    let Token::Number { text, at: _ } = token else {
-        return Err(NoSentence);
-    };
-    let Some(value) = read_number(text) else {
-        return Err(NoSentence);
-    };
-    Ok((value, next))
-}
-
-// What stands after an atom's name: a comparison with a number, or nothing.
-fn test(bytes: &[u8], from: usize) -> Result<(Test, usize), NoSentence>
-    requires { from ≤ length bytes.now }
-    ensures { IfOk result (λ p. (from ≤ p.1) × (p.1 ≤ length bytes.now)) }
-{
-    let Some((comparison, next)) = meet_comparison(bytes, from) else {
-        return Ok((Test::Holds, from));
-    };
-    let (value, end) = number(bytes, next)?;
-    Ok((Test::Compares(comparison, value), end))
-}
-
-// An atom whose name stands at `name`, and ends before `from`.
-fn atom(bytes: &[u8], name: Span, from: usize, terms: &mut Terms) -> Result<Reading, NoSentence>
-    requires { from ≤ length bytes.now }
-    ensures grown { terms.old.count ≤ terms.new.count }
-    ensures read { IfOk result (λ p. (from ≤ p.next) × (p.next ≤ length bytes.now) × (p.node + 1 ≡ terms.new.count)) }
-{
-    let (test, next) = test(bytes, from)?;
-    let node = terms.add(Term::Atom { name, test }, name)?;
-    Ok(Reading { node, next })
-}
-
-// An either, or an either, `->` and a whole.
-#[cycle(both_either_single_until_whole)]
-pub(crate) fn whole(bytes: &[u8], at: usize, terms: &mut Terms) -> Result<Reading, NoSentence>
-    requires { at ≤ length bytes.now }
-    ensures grown { terms.old.count ≤ terms.new.count }
-    ensures step { IfOk result (λ p. Step at (length bytes.now) terms.new.count p.node p.next) }
-{
-    let left = either(bytes, at, terms)?;
-    let Some(arrow) = meet(bytes, left.next, Operator::Implies) else {
-        return Ok(left);
-    };
-    let right = whole(bytes, arrow.next, terms)?;
-    let node = terms.add(
-        Term::Two(Binary::Implies, left.node, right.node),
-        arrow.place,
-    )?;
-    let next = right.next;
-    Ok(Reading { node, next })
-}
-
-// Boths joined by `|`, from the left.
-#[cycle(both_either_single_until_whole)]
-fn either(bytes: &[u8], at: usize, terms: &mut Terms) -> Result<Reading, NoSentence>
-    requires { at ≤ length bytes.now }
-    ensures grown { terms.old.count ≤ terms.new.count }
-    ensures step { IfOk result (λ p. Step at (length bytes.now) terms.new.count p.node p.next) }
-{
-    let mut left = both(bytes, at, terms)?;
-    while let Some(bar) = meet(bytes, left.next, Operator::Or) {
-        let right = both(bytes, bar.next, terms)?;
-        let node = terms.add(Term::Two(Binary::Or, left.node, right.node), bar.place)?;
-        let next = right.next;
-        left = Reading { node, next };
-    }
-    Ok(left)
-}
-
-// Untils joined by `&`, from the left.
-#[cycle(both_either_single_until_whole)]
-fn both(bytes: &[u8], at: usize, terms: &mut Terms) -> Result<Reading, NoSentence>
-    requires { at ≤ length bytes.now }
-    ensures grown { terms.old.count ≤ terms.new.count }
-    ensures step { IfOk result (λ p. Step at (length bytes.now) terms.new.count p.node p.next) }
-{
-    let mut left = until(bytes, at, terms)?;
-    while let Some(ampersand) = meet(bytes, left.next, Operator::And) {
-        let right = until(bytes, ampersand.next, terms)?;
-        let node = terms.add(
-            Term::Two(Binary::And, left.node, right.node),
-            ampersand.place,
-        )?;
-        let next = right.next;
-        left = Reading { node, next };
-    }
-    Ok(left)
-}
-
-// A single, or a single, `U` and an until.
-#[cycle(both_either_single_until_whole)]
-fn until(bytes: &[u8], at: usize, terms: &mut Terms) -> Result<Reading, NoSentence>
-    requires { at ≤ length bytes.now }
-    ensures grown { terms.old.count ≤ terms.new.count }
-    ensures step { IfOk result (λ p. Step at (length bytes.now) terms.new.count p.node p.next) }
-{
-    let left = single(bytes, at, terms)?;
-    let Some(letter) = meet(bytes, left.next, Operator::Until) else {
-        return Ok(left);
-    };
-    let right = until(bytes, letter.next, terms)?;
-    let node = terms.add(
-        Term::Two(Binary::Until, left.node, right.node),
-        letter.place,
-    )?;
-    let next = right.next;
-    Ok(Reading { node, next })
-}
-
-// A prefix operator before a single, a bracketed whole, or an atom.
-#[cycle(both_either_single_until_whole)]
-fn single(bytes: &[u8], at: usize, terms: &mut Terms) -> Result<Reading, NoSentence>
-    requires { at ≤ length bytes.now }
-    ensures grown { terms.old.count ≤ terms.new.count }
-    ensures step { IfOk result (λ p. Step at (length bytes.now) terms.new.count p.node p.next) }
-{
-    let Some((token, next)) = next_token(bytes, at) else {
-        return Err(NoSentence);
-    };
-    match token {
-        Token::Name { text, at: start } => {
-            let length = text.len();
-            atom(bytes, Span { start, length }, next, terms)
+    fn try_from(operator: Operator) -> Result<Comparison, NoSentence> {
+        match operator {
+            Operator::Equal => Ok(Comparison::Equal),
+            Operator::Less => Ok(Comparison::Less),
+            Operator::Greater => Ok(Comparison::Greater),
+            _ => Err(NoSentence),
         }
-        Token::Number { text: _, at: _ } => Err(NoSentence),
-        Token::Operator {
-            operator: Operator::Open,
-            text: _,
-            at: _,
-        } => {
-            let inner = whole(bytes, next, terms)?;
-            let Some(close) = meet(bytes, inner.next, Operator::Close) else {
-                return Err(NoSentence);
-            };
-            let node = inner.node;
-            let next = close.next;
-            Ok(Reading { node, next })
+    }
+}
+
+// The operator that stands before one side.
+impl TryFrom<Operator> for Unary {
+    type Error = NoSentence;
+
+    ghost try_from_gives = { λ o r. Takes (prefix_of o) r };
+
+    fn try_from(operator: Operator) -> Result<Unary, NoSentence> {
+        match operator {
+            Operator::Not => Ok(Unary::Not),
+            Operator::Next => Ok(Unary::Next),
+            Operator::Finally => Ok(Unary::Finally),
+            Operator::Globally => Ok(Unary::Globally),
+            _ => Err(NoSentence),
         }
-        Token::Operator {
-            operator,
-            text,
-            at: start,
-        } => {
-            let Some(prefix) = prefix_of(operator) else {
-                return Err(NoSentence);
-            };
-            let length = text.len();
-            let inner = single(bytes, next, terms)?;
-            let node = terms.add(Term::One(prefix, inner.node), Span { start, length })?;
-            let next = inner.next;
-            Ok(Reading { node, next })
+    }
+}
+
+// The place that the readers have come to, and the nodes so far. Each reader answers the number of its node.
+#[derive(Drop)]
+struct Parser<'a> {
+    cursor: Cursor<'a>,
+    terms: Terms,
+    ghost few: { array_vec_len terms ≤ 64 },
+}
+
+impl<'a> Parser<'a> {
+    ghost use Rattle.std.specs.Prelude.{◌≡◌, ◌+◌, ◌<◌, ◌≤◌, IfOk, IfSome};
+    ghost use Rattle.arrayvec.specs.ArrayVec.{array_vec_len};
+    ghost use Rattle.sentence.specs.Steps.{Onward, Step};
+
+    // One node more, with its number; refused where there are NODES.
+    fn add(&mut self, node: Node<Span>, place: Span) -> Result<usize, NoSentence>
+        ensures cursor { self.new.cursor ≡ self.old.cursor }
+        ensures grown { array_vec_len self.old.terms ≤ array_vec_len self.new.terms }
+        ensures last { IfOk result (λ f. f + 1 ≡ array_vec_len self.new.terms) }
+    {
+        let f = self.terms.len();
+        self.terms
+            .try_push(Placed { node, place })
+            .map_err(|_| NoSentence)?;
+        Ok(f)
+    }
+
+    // What the next token is taken as, with its place, and past it; none where it is no operator that is taken.
+    fn accept<T: Copy, F: Fn(Operator) -> Option<T>>(&mut self, take: F) -> Option<(T, Span)>
+        requires { F.IsAlwaysCallable take }
+        ensures onward { Onward self.old self.new }
+        ensures terms { self.new.terms ≡ self.old.terms }
+        ensures on { IfSome result (λ _. self.old.cursor.at < self.new.cursor.at) }
+    {
+        let mut next = self.cursor;
+        let Token::Operator(operator, word) = Token::next(&mut next)? else {
+            return None;
+        };
+        let taken = take(operator)?;
+        self.cursor = next;
+        Some((taken, word.span()))
+    }
+
+    // The place of the operator wanted, and past it, where it is the next token.
+    fn meet(&mut self, wanted: Operator) -> Option<Span>
+        ensures onward { Onward self.old self.new }
+        ensures terms { self.new.terms ≡ self.old.terms }
+        ensures on { IfSome result (λ _. self.old.cursor.at < self.new.cursor.at) }
+    {
+        let (_, place) = self.accept(|operator| (operator == wanted).then_some(()))?;
+        Some(place)
+    }
+
+    // The number that is the next token.
+    fn number(&mut self) -> Result<i16, NoSentence>
+        ensures { Onward self.old self.new }
+    {
+        match Token::next(&mut self.cursor) {
+            Some(Token::Number(word)) => read_number(word.text).ok_or(NoSentence),
+            _ => Err(NoSentence),
+        }
+    }
+
+    // An atom whose name stands before the place come to: a comparison with a number where its sign comes next.
+    fn atom(&mut self, name: Span) -> Result<usize, NoSentence>
+        ensures onward { Onward self.old self.new }
+        ensures last { IfOk result (λ node. node + 1 ≡ array_vec_len self.new.terms) }
+    {
+        let atom = match self.accept(|operator| Comparison::try_from(operator).ok()) {
+            Some((comparison, _)) => Atom::Compare {
+                signal: name,
+                comparison,
+                number: self.number()?,
+            },
+            None => Atom::Truth { signal: name },
+        };
+        self.add(Node::Atom(atom), name)
+    }
+
+    // By a rule of form each level of the grammar has a reader of its own, and they call each other. So `whole` and
+    // `until`, and `either` and `both`, have one shape and are two.
+    // An either, or an either, `->` and a whole.
+    #[cycle(both_either_single_until_whole)]
+    fn whole(&mut self) -> Result<usize, NoSentence>
+        ensures onward { Onward self.old self.new }
+        ensures step { IfOk result (λ node. Step self.old self.new node) }
+    {
+        let left = self.either()?;
+        match self.meet(Operator::Implies) {
+            Some(arrow) => {
+                let right = self.whole()?;
+                self.add(Node::Two(Binary::Implies, left, right), arrow)
+            }
+            None => Ok(left),
+        }
+    }
+
+    // Boths joined by `|`, from the left.
+    #[cycle(both_either_single_until_whole)]
+    fn either(&mut self) -> Result<usize, NoSentence>
+        ensures onward { Onward self.old self.new }
+        ensures step { IfOk result (λ node. Step self.old self.new node) }
+    {
+        let mut left = self.both()?;
+        while let Some(bar) = self.meet(Operator::Or) {
+            let right = self.both()?;
+            left = self.add(Node::Two(Binary::Or, left, right), bar)?;
+        }
+        Ok(left)
+    }
+
+    // Untils joined by `&`, from the left.
+    #[cycle(both_either_single_until_whole)]
+    fn both(&mut self) -> Result<usize, NoSentence>
+        ensures onward { Onward self.old self.new }
+        ensures step { IfOk result (λ node. Step self.old self.new node) }
+    {
+        let mut left = self.until()?;
+        while let Some(ampersand) = self.meet(Operator::And) {
+            let right = self.until()?;
+            left = self.add(Node::Two(Binary::And, left, right), ampersand)?;
+        }
+        Ok(left)
+    }
+
+    // A single, or a single, `U` and an until.
+    #[cycle(both_either_single_until_whole)]
+    fn until(&mut self) -> Result<usize, NoSentence>
+        ensures onward { Onward self.old self.new }
+        ensures step { IfOk result (λ node. Step self.old self.new node) }
+    {
+        let left = self.single()?;
+        match self.meet(Operator::Until) {
+            Some(letter) => {
+                let right = self.until()?;
+                self.add(Node::Two(Binary::Until, left, right), letter)
+            }
+            None => Ok(left),
+        }
+    }
+
+    // A prefix operator before a single, a bracketed whole, or an atom.
+    #[cycle(both_either_single_until_whole)]
+    fn single(&mut self) -> Result<usize, NoSentence>
+        ensures onward { Onward self.old self.new }
+        ensures step { IfOk result (λ node. Step self.old self.new node) }
+    {
+        match Token::next(&mut self.cursor).ok_or(NoSentence)? {
+            Token::Name(word) => self.atom(word.span()),
+            Token::Number(_) => Err(NoSentence),
+            Token::Operator(Operator::Open, _) => {
+                let inner = self.whole()?;
+                self.meet(Operator::Close).ok_or(NoSentence)?;
+                Ok(inner)
+            }
+            Token::Operator(operator, word) => {
+                let prefix = Unary::try_from(operator)?;
+                let inner = self.single()?;
+                self.add(Node::One(prefix, inner), word.span())
+            }
         }
     }
 }
 
 // The terms of the sentence that the bytes from `from` to their end are.
 pub fn sentence(bytes: &[u8], from: usize) -> Result<Terms, NoSentence>
-    ensures { IfOk result (λ t. (1 ≤ t.count) × (from < length bytes.now)) }
+    ensures { IfOk result (λ t. (1 ≤ array_vec_len t) × (array_vec_len t ≤ 64) × (from < length bytes.now)) }
 {
-    if from > bytes.len() {
-        return Err(NoSentence);
+    let cursor = Cursor::new(bytes, from).ok_or(NoSentence)?;
+    let terms = ArrayVec::new();
+    let mut parser = Parser { cursor, terms };
+    parser.whole()?;
+    skip_spaces(&mut parser.cursor);
+    match parser.cursor.peek() {
+        None => Ok(parser.terms),
+        Some(_) => Err(NoSentence),
     }
-    let mut terms = Terms::none();
-    let reading = whole(bytes, from, &mut terms)?;
-    if skip_spaces(bytes, reading.next) < bytes.len() {
-        return Err(NoSentence);
-    }
-    Ok(terms)
 }

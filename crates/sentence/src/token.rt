@@ -1,8 +1,10 @@
 // Tokens of a property: names, numbers and operators, each a stretch of the file with its place.
-ghost use Rattle.std.specs.Prelude.{◌≡◌, ℕ, ◌+◌, ◌<◌, ◌≤◌, true, false, length, IfSome};
-ghost use Rattle.text.specs.Words.{digit, name_byte};
-ghost use Rattle.sentence.specs.Tokens.{Blank, Run, Sized, letter_of, sign_of, Reads};
+ghost use Rattle.std.specs.Prelude.{◌≡◌, ◌<◌, ◌≤◌, ◌==◌, length, IfSome, MatchOption};
+ghost use Rattle.text.specs.Runs.{Passed};
+ghost use Rattle.sentence.specs.Tokens.{Stretch, letter_of, sign_of, Reads};
 
+use crate::terms::Span;
+use text::cursor::Cursor;
 use text::name::{is_digit, is_name, is_name_byte};
 
 // The operators, brackets and comparisons.
@@ -23,49 +25,23 @@ pub enum Operator {
     Until,
 }
 
-// A token, with its bytes and the place of the first.
+// The bytes of a token, and the place of the first.
+#[derive(Clone, Copy)]
+pub struct Word<'a> {
+    pub text: &'a [u8],
+    pub at: usize,
+}
+
+// A token, with its word.
 #[derive(Clone, Copy)]
 pub enum Token<'a> {
-    Name {
-        text: &'a [u8],
-        at: usize,
-    },
-    Number {
-        text: &'a [u8],
-        at: usize,
-    },
-    Operator {
-        operator: Operator,
-        text: &'a [u8],
-        at: usize,
-    },
+    Name(Word<'a>),
+    Number(Word<'a>),
+    Operator(Operator, Word<'a>),
 }
 
-// The first place from `at` on that is no space.
-pub(crate) fn skip_spaces(bytes: &[u8], at: usize) -> usize
-    requires { at ≤ length bytes.now }
-    ensures { Blank bytes.now at result }
-{
-    let mut k = at;
-    while k < bytes.len() && bytes[k] == b' ' {
-        k += 1;
-    }
-    k
-}
-
-// The end of the run of name bytes that begins at `at`.
-fn run_end(bytes: &[u8], at: usize) -> usize
-    requires { at ≤ length bytes.now }
-    ensures { Run bytes.now at result }
-{
-    let mut k = at;
-    while k < bytes.len() && is_name_byte(bytes[k]) {
-        k += 1;
-    }
-    k
-}
-
-// The operator that a letter is where it stands alone.
+// The operator that a letter is where it stands alone. It is a function beside `sign` and no `TryFrom`, which could not tell
+// where the byte stands.
 fn letter(b: u8) -> Option<Operator>
     ensures { result ≡ letter_of b }
 {
@@ -95,74 +71,70 @@ fn sign(b: u8) -> Option<Operator>
     }
 }
 
-// A word: a run of name bytes from `at` up to `end`. It is an operator where it is one letter, a number where it
-// begins with a digit, and else a name.
-fn word<'a>(bytes: &'a [u8], at: usize, end: usize) -> Option<Token<'a>>
-    requires { (at < end) × (end ≤ length bytes.now) }
-    ensures { IfSome result (λ t. Reads bytes.now at end t) }
+// Past any spaces.
+pub(crate) fn skip_spaces(cursor: &mut Cursor)
+    ensures text { cursor.new.bytes ≡ cursor.old.bytes }
+    ensures blank { Passed (λ b v. v ≡ (b == 32)) cursor.old.bytes.now cursor.old.at cursor.new.at }
 {
-    let text = &bytes[at..end];
-    if is_digit(bytes[at]) {
-        return Some(Token::Number { text, at });
-    }
-    if end - at == 1 {
-        let operator = letter(bytes[at])?;
-        return Some(Token::Operator { operator, text, at });
-    }
-    if !is_name(text) {
-        return None;
-    }
-    Some(Token::Name { text, at })
+    cursor.skip_while(|b| b == b' ');
 }
 
-// A minus at `at`: the arrow, or the sign of a number.
-fn minus<'a>(bytes: &'a [u8], at: usize) -> Option<(Token<'a>, usize)>
-    requires { at < length bytes.now }
-    ensures { IfSome result (λ p. Sized at (length bytes.now) p.1) }
-{
-    if at + 1 >= bytes.len() {
-        return None;
+impl<'a> Word<'a> {
+    // The bytes from one place up to another.
+    fn between(start: Cursor<'a>, end: Cursor<'a>) -> Word<'a>
+        requires text { start.bytes ≡ end.bytes }
+        requires order { start.at ≤ end.at }
+        ensures { Stretch start.entry.bytes.now start.entry.at end.entry.at result }
+    {
+        let text = &start.bytes[start.at..end.at];
+        Word { text, at: start.at }
     }
-    if bytes[at + 1] == b'>' {
-        let operator = Operator::Implies;
-        let text = &bytes[at..at + 2];
-        return Some((Token::Operator { operator, text, at }, at + 2));
+
+    // The stretch of the file.
+    pub(crate) fn span(&self) -> Span
+        ensures { (result.start ≡ self.now.at) × (result.length ≡ length self.now.text.now) }
+    {
+        Span {
+            start: self.at,
+            length: self.text.len(),
+        }
     }
-    let end = run_end(bytes, at + 1);
-    let text = &bytes[at..end];
-    Some((Token::Number { text, at }, end))
+
+    // What a run of name bytes is: an operator where it is one letter, a number where it begins with a digit, and else a
+    // name.
+    fn token(self) -> Option<Token<'a>>
+        ensures { IfSome result (λ t. Reads self.entry t) }
+    {
+        match self.text {
+            [first, ..] if is_digit(*first) => Some(Token::Number(self)),
+            [only] => Some(Token::Operator(letter(*only)?, self)),
+            text if is_name(text) => Some(Token::Name(self)),
+            _ => None,
+        }
+    }
 }
 
-// The token that begins at `at`, and the place after it.
-fn token_at<'a>(bytes: &'a [u8], at: usize) -> Option<(Token<'a>, usize)>
-    requires { at < length bytes.now }
-    ensures { IfSome result (λ p. Sized at (length bytes.now) p.1) }
-{
-    if bytes[at] == b'-' {
-        return minus(bytes, at);
+impl<'a> Token<'a> {
+    // The token after any spaces; none at the end, or where no token begins.
+    pub(crate) fn next(cursor: &mut Cursor<'a>) -> Option<Token<'a>>
+        ensures text { cursor.new.bytes ≡ cursor.old.bytes }
+        ensures on { MatchOption result (cursor.old.at ≤ cursor.new.at) (λ _. cursor.old.at < cursor.new.at) }
+    {
+        skip_spaces(cursor);
+        let start = *cursor;
+        let first = cursor.bump()?;
+        if let Some(operator) = sign(first) {
+            return Some(Token::Operator(operator, Word::between(start, *cursor)));
+        }
+        if first == b'-' && cursor.eat(b'>') {
+            return Some(Token::Operator(Operator::Implies, Word::between(start, *cursor)));
+        }
+        cursor.skip_while(is_name_byte);
+        let word = Word::between(start, *cursor);
+        if first == b'-' {
+            Some(Token::Number(word))
+        } else {
+            word.token()
+        }
     }
-    if let Some(operator) = sign(bytes[at]) {
-        let text = &bytes[at..at + 1];
-        return Some((Token::Operator { operator, text, at }, at + 1));
-    }
-    let end = run_end(bytes, at);
-    if end == at {
-        return None;
-    }
-    let Some(token) = word(bytes, at, end) else {
-        return None;
-    };
-    Some((token, end))
-}
-
-// The next token after any spaces, and the place after it; none at the end, or where no token begins.
-pub(crate) fn next_token<'a>(bytes: &'a [u8], from: usize) -> Option<(Token<'a>, usize)>
-    requires { from ≤ length bytes.now }
-    ensures { IfSome result (λ p. Sized from (length bytes.now) p.1) }
-{
-    let at = skip_spaces(bytes, from);
-    if at >= bytes.len() {
-        return None;
-    }
-    token_at(bytes, at)
 }

@@ -1,2 +1,3 @@
+mod First
 mod Magnitudes
 mod Signs

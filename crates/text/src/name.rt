@@ -1,5 +1,5 @@
 // Names of signals and of kinds.
-ghost use Rattle.std.specs.Prelude.{◌≡◌, true, false, Decides};
+ghost use Rattle.std.specs.Prelude.{◌≡◌, Decides};
 ghost use Rattle.text.specs.Words.{capital, digit, name_byte, kind_byte, Each, Name, Kind};
 
 // A signal's name has NAME_LOW to NAME_HIGH bytes, a kind's at most KIND_HIGH.
@@ -33,46 +33,18 @@ pub fn is_kind_byte(b: u8) -> bool
     matches!(char::from(b), 'a'..='z' | '0'..='9')
 }
 
-fn all_name_bytes(bytes: &[u8]) -> bool
-    ensures { Decides result (Each name_byte bytes.now) }
-{
-    for b in bytes {
-        if !is_name_byte(*b) {
-            return false;
-        }
-    }
-    true
-}
-
-fn all_kind_bytes(bytes: &[u8]) -> bool
-    ensures { Decides result (Each kind_byte bytes.now) }
-{
-    for b in bytes {
-        if !is_kind_byte(*b) {
-            return false;
-        }
-    }
-    true
-}
-
 // Whether the bytes are a signal's name.
 pub fn is_name(bytes: &[u8]) -> bool
     ensures { Decides result (Name bytes.now) }
 {
-    let length = bytes.len();
-    if length < NAME_LOW || length > NAME_HIGH {
-        return false;
-    }
-    is_capital(bytes[0]) && all_name_bytes(bytes)
+    (NAME_LOW..=NAME_HIGH).contains(&bytes.len())
+        && is_capital(bytes[0])
+        && bytes.iter().all(|b| is_name_byte(*b))
 }
 
 // Whether the bytes are a kind's name.
 pub fn is_kind(bytes: &[u8]) -> bool
     ensures { Decides result (Kind bytes.now) }
 {
-    let length = bytes.len();
-    if length < 1 || length > KIND_HIGH {
-        return false;
-    }
-    all_kind_bytes(bytes)
+    (1..=KIND_HIGH).contains(&bytes.len()) && bytes.iter().all(|b| is_kind_byte(*b))
 }
