@@ -1,15 +1,14 @@
 -- Worked examples, which pin the definitions: a run of three steps that goes on at step 2, so that its word is 1 2 3 2 3 2 ..
-use Rattle.std.proofs.Common.{◌≡◌, ℕ, zero, suc, ◌<◌, ◌≤◌, Bool, true, false, eqb, [], ◌∷◌, refl, ap, inr, arith}
+use Rattle.std.proofs.Common.{◌≡◌, ℕ, zero, suc, ◌+◌, ◌<◌, ◌≤◌, Bool, true, false, eqb, [], ◌∷◌, slice_index_or, refl, ap, inr, arith}
 use Rattle.std.proofs.lemmas.Bool.{false≢true}
 use Rattle.looping.specs.declared.Unary.TheVariants.{Not, Next, Finally, Globally}
 use Rattle.looping.specs.declared.Binary.TheVariants.{And, Or, Implies, Until}
-use Rattle.looping.specs.declared.Sweep.TheVariants as sweep
-use Rattle.looping.specs.declared.Gate.TheVariants as gate
 use Rattle.looping.specs.Words.{after, onward, word, visits, visit, Loops, Within}
 use Rattle.looping.specs.Logic.{Sat, atom, one, two}
 use Rattle.looping.specs.Columns.{at, On, Kept}
 use Rattle.looping.specs.Laws.{AllVisits, Means1, Means2, SatStep, Truths}
-use Rattle.looping.specs.Sweeps.{down, swept, turned, turn_at, gated}
+use Rattle.looping.specs.Sweeps.{down, swept, Passed, PassedTwice}
+use Rattle.looping.proofs.Passes.{until_turn}
 use Rattle.looping.proofs.Holding.{visits_suffice}
 
 after_first : after 3 2 1 ≡ 2
@@ -127,35 +126,33 @@ column : Truths only 3 2 (atom 2) (only 2)
 column k = (λ e. e, λ e. e)
 
 -- `right` at step 2 alone, and `left` everywhere: at step 3 one pass does not see step 2, the second does
-one_pass : down (turn_at sweep.Until (λ _. true) (only 2)) false 3 1 ≡ false
+one_pass : down (until_turn (λ _. true) (only 2)) false 3 1 ≡ false
 one_pass = refl
 
-two_passes : swept (turn_at sweep.Until (λ _. true) (only 2)) false 3 2 3 ≡ true
+two_passes : swept (until_turn (λ _. true) (only 2)) false 3 2 3 ≡ true
 two_passes = refl
 
-carried_on : turned sweep.Until true false true ≡ true
-carried_on = refl
+-- the same as lists of truths
+abbrev made : ℕ → Bool → Bool → Type 0
+made i x y = y ≡ until_turn (λ _. true) (only 2) (suc i) x
 
-not_carried : turned sweep.Until false false true ≡ false
-not_carried = refl
+first_list : Passed made false (true ∷ true ∷ false ∷ [])
+first_list = record { each = each }
+  where
+    each : (i : ℕ) → i < 3 → made i (slice_index_or (true ∷ true ∷ false ∷ []) (i + 1) false) (slice_index_or (true ∷ true ∷ false ∷ []) i false)
+    each zero h = refl
+    each (suc zero) h = refl
+    each (suc (suc zero)) h = refl
+    each (suc (suc (suc i))) h = absurd (omega arith)
 
-some_carried : turned sweep.Finally false true false ≡ true
-some_carried = refl
+second_list : PassedTwice made false 2 (true ∷ true ∷ true ∷ [])
+second_list = record { once = true ∷ true ∷ false ∷ []; long = refl; first = first_list; second = record { each = each } }
+  where
+    each : (i : ℕ) → i < 3 → made i (slice_index_or (true ∷ true ∷ true ∷ []) (i + 1) true) (slice_index_or (true ∷ true ∷ true ∷ []) i true)
+    each zero h = refl
+    each (suc zero) h = refl
+    each (suc (suc zero)) h = refl
+    each (suc (suc (suc i))) h = absurd (omega arith)
 
-all_carried : turned sweep.Globally true false true ≡ false
-all_carried = refl
-
-implied : gated gate.Implies false false ≡ true
-implied = refl
-
-not_implied : gated gate.Implies true false ≡ false
-not_implied = refl
-
-negated : gated gate.Not true false ≡ false
-negated = refl
-
-joined : gated gate.And true false ≡ false
-joined = refl
-
-either : gated gate.Or true false ≡ true
-either = refl
+not_carried : Passed made true (false ∷ true ∷ true ∷ []) → ⊥
+not_carried p = false≢true (p.each 0 (omega arith))

@@ -1,33 +1,49 @@
--- Columns that are filled step by step.
-use Rattle.std.proofs.Common.{◌≡◌, ℕ, suc, ◌+◌, ◌-◌, ◌<◌, ◌≤◌, Bool, false, ◌≢◌, List, length, get_or, set, sym, ap, ◌∙◌, inl, inr, arith, get_or-set_other, get_or-set_same}
-use Rattle.std.proofs.lemmas.Bool.{cases_eq}
-use Rattle.looping.specs.Words.{Within}
-use Rattle.looping.specs.Columns.{at, Kept}
-use Rattle.looping.specs.Sweeps.{down}
+-- Columns that are filled place by place.
+use Rattle.std.proofs.Common.{◌≡◌, ℕ, zero, suc, ◌+◌, ◌-◌, ◌≤◌, Bool, false, List, ◌++◌, length, get_or, Decides, ap, ◌∙◌, subst, arith}
+use Rattle.std.proofs.lemmas.Bool.Decides.{Decides-at}
+use Rattle.std.proofs.lemmas.List.{get_or_append_left, get_or_default, get_or_past}
+use Rattle.looping.specs.declared.Unary.{Unary}
+use Rattle.looping.specs.declared.Binary.{Binary}
+use Rattle.looping.specs.Words.{Loops, Within}
+use Rattle.looping.specs.Columns.{at, On}
+use Rattle.looping.specs.Laws.{Means1, Means2}
+use Rattle.looping.specs.Sweeps.{down, swept, Passed, PassedTwice}
+use Rattle.looping.proofs.Sats.{column1, column2, decides1, decides2}
 
--- once place i is written, step j is right if it stands there, or was right before
-pub filled : (xs : List Bool) (i j : ℕ) (v : Bool) (right : ℕ → Bool) → i < length xs → 1 ≤ j
-    → (j ≢ suc i → at xs j ≡ right j) → v ≡ right (suc i) → at (set xs i v) j ≡ right j
-filled xs i j v right high low old new =
-    elim (cases_eq j (suc i)) [
-      | inl e ↦ let s : j - 1 ≡ i = omega arith in ap (λ (k : ℕ). get_or (set xs i v) k false) s ∙ get_or-set_same xs i v false high ∙ new ∙ ap right (sym e)
-      | inr o ↦ get_or-set_other xs i (j - 1) v false (λ s. o (omega arith)) ∙ old o
-    ]
+module _ (turn : ℕ → Bool → Bool → Type 0) (g : ℕ → Bool → Bool) (l : ℕ) (same : (i : ℕ) (x y : Bool) → Within l i → turn (i - 1) x y → y ≡ g i x) where
+  -- a pass has what is carried to each place
+  passed : (last : Bool) (xs : List Bool) → length xs ≡ l → Passed turn last xs → (d : ℕ) → d ≤ l → get_or xs (l - d) last ≡ down g last l d
+  passed last xs long p zero h = get_or_past xs (l - 0) last (omega arith)
+  passed last xs long p (suc d) h =
+      let i : l - suc d ≡ l - d - 1 = omega arith in
+      let after : l - suc d + 1 ≡ l - d = omega arith in
+      let made : turn (l - d - 1) (get_or xs (l - suc d + 1) last) (get_or xs (l - suc d) last) =
+      subst (λ (k : ℕ). turn k (get_or xs (l - suc d + 1) last) (get_or xs (l - suc d) last)) i (p.each (l - suc d) (omega arith)) in
+      same (l - d) (get_or xs (l - suc d + 1) last) (get_or xs (l - suc d) last) (record { low = omega arith; high = omega arith }) made
+      ∙ ap (λ (k : ℕ). g (l - d) (get_or xs k last)) after ∙ ap (g (l - d)) (passed last xs long p d (omega arith))
 
--- a column that is right up to step i is right up to step i + 1
-pub at_more : (xs : List Bool) (i : ℕ) (v : Bool) (right : ℕ → Bool) → i < length xs
-    → ((j : ℕ) → Within i j → at xs j ≡ right j) → v ≡ right (suc i)
-    → (j : ℕ) → Within (i + 1) j → at (set xs i v) j ≡ right j
-at_more xs i v right high old new j w =
-    filled xs i j v right high w.low (λ o. old j (record { low = w.low; high = omega (arith, w.high) })) new
+  passed_at : (last : Bool) (xs : List Bool) → length xs ≡ l → Passed turn last xs → (i : ℕ) → Within l i → at xs i ≡ down g last l (suc l - i)
+  passed_at last xs long p i w =
+      let e : i - 1 ≡ l - (suc l - i) = omega (arith, w.low, w.high) in
+      get_or_default xs (i - 1) false last (omega (arith, w.low, w.high)) ∙ ap (λ (k : ℕ). get_or xs k last) e ∙ passed last xs long p (suc l - i) (omega (arith, w.low))
 
--- the places past the first l stay, where an earlier one is written
-pub kept_more : (l i : ℕ) (old xs : List Bool) (v : Bool) → i < l → Kept l old xs → Kept l old (set xs i v)
-kept_more l i old xs v h kept p b = get_or-set_other xs i p v false (λ e. absurd (omega arith)) ∙ kept p b
+  twice_at : (begin : Bool) (c : ℕ) (xs : List Bool) → Loops l c → length xs ≡ l → PassedTwice turn begin c xs → (i : ℕ) → Within l i → at xs i ≡ swept g begin l c i
+  twice_at begin c xs good long p i w =
+      let last : at p.once c ≡ down g begin l (suc l - c) = passed_at begin p.once (p.long ∙ long) p.first c (record { low = good.low; high = good.high }) in
+      passed_at (at p.once c) xs long p.second i w ∙ ap (λ (x : Bool). down g x l (suc l - i)) last
 
--- what is carried past step i
-pub down_more : (turn : ℕ → Bool → Bool) (last : Bool) (l i : ℕ) → 1 ≤ i → i ≤ l → down turn last l (l - (i - 1)) ≡ turn i (down turn last l (l - i))
-down_more turn last l i low high =
-    let e : l - (i - 1) ≡ suc (l - i) = omega arith in
-    let f : l - (l - i) ≡ i = omega arith in
-    ap (down turn last l) e ∙ ap (λ (x : ℕ). turn x (down turn last l (l - i))) f
+-- two passes have what is swept, where `turn` makes what g says
+pub swept_at : {turn : ℕ → Bool → Bool → Type 0} {begin : Bool} {c : ℕ} {xs : List Bool} {l : ℕ} (g : ℕ → Bool → Bool) → PassedTwice turn begin c xs → Loops l c → length xs ≡ l
+    → ((i : ℕ) (x y : Bool) → Within l i → turn (i - 1) x y → y ≡ g i x) → (i : ℕ) → Within l i → at xs i ≡ swept g begin l c i
+swept_at {turn} {begin} {c} {xs} {l} g p good long same = twice_at turn g l same begin c xs good long p
+
+module _ {l c : ℕ} (good : Loops l c) (run rest : List Bool) (long : length run ≡ l) where
+  at_run : (i : ℕ) → Within l i → at (run ++ rest) i ≡ at run i
+  at_run i w = get_or_append_left run rest false (i - 1) (omega (arith, w.low, w.high))
+
+  -- a run of truths that has the column of an operator says what the operator means
+  pub says1 : (o : Unary) (x : ℕ → Bool) → ((i : ℕ) → Within l i → at run i ≡ column1 l c o x i) → (i : ℕ) → Within l i → Decides (at (run ++ rest) i) (Means1 o l c (On x) i)
+  says1 o x made i w = Decides-at (at (run ++ rest) i) (column1 l c o x i) (at_run i w ∙ made i w) (decides1 l c good o x i w)
+
+  pub says2 : (o : Binary) (x y : ℕ → Bool) → ((i : ℕ) → Within l i → at run i ≡ column2 l c o x y i) → (i : ℕ) → Within l i → Decides (at (run ++ rest) i) (Means2 o l c (On x) (On y) i)
+  says2 o x y made i w = Decides-at (at (run ++ rest) i) (column2 l c o x y i) (at_run i w ∙ made i w) (decides2 l c good o x y i w)

@@ -1,6 +1,6 @@
 -- The laws of visits hold.
 use Rattle.std.proofs.Common.{◌≡◌, ℕ, zero, suc, ◌+◌, ◌-◌, ◌%◌, ◌<◌, Bool, ◌↔◌, sym, ap, ◌∙◌, inl, inr, add-zero, add-suc, mod-lt, mod-eq_of_lt, arith}
-use native.Mathlib.Nat.{zero-mod, suc-mod, mod_self}
+use Rattle.std.proofs.Math.Nat.{zero-mod, suc-mod, mod_self}
 use Rattle.std.proofs.lemmas.Bool.{cases_lt}
 use Rattle.looping.specs.Words.{after, word, Loops}
 use Rattle.looping.specs.Logic.{Tree, Sat}

@@ -2,7 +2,6 @@ pub mod Paths
 mod Walks
 mod Passes
 pub mod Sats
-pub mod Alike
 mod Holding
-pub mod Filling
+mod Filling
 mod Examples

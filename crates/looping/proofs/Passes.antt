@@ -1,5 +1,6 @@
 -- Two passes find the truth at every step.
 use Rattle.std.proofs.Common.{◌≡◌, ℕ, zero, suc, ◌+◌, ◌-◌, ◌<◌, ◌≤◌, Bool, true, false, not, ◌&&◌, ◌||◌, ◌⊎◌, Decides, sym, refl, ap, ◌∙◌, subst, inl, inr, arith}
+use Rattle.std.proofs.Math.Bool.{not-not}
 use Rattle.std.proofs.lemmas.Bool.{or_cases, or_left, or_right, and_parts, and_from, both_ways, cases_Bool, not-true, not_from_false}
 use Rattle.looping.specs.Words.{after, onward, visit, Loops, Within}
 use Rattle.looping.specs.Laws.{SomeVisit, AllVisits, UntilVisit}
@@ -119,13 +120,9 @@ module _ (l c : ℕ) (good : Loops l c) (q : ℕ → Bool) where
       turn true x y e = e
       turn false x y e = refl
 
-  not_not : (x : Bool) → not (not x) ≡ x
-  not_not true = refl
-  not_not false = refl
-
   swept_mirror : (i : ℕ) → swept (all_turn q) true l c i ≡ not (swept (some_turn (λ i. not (q i))) false l c i)
   swept_mirror i =
-      let e : not (down (all_turn q) true l (suc l - c)) ≡ down (some_turn (λ i. not (q i))) false l (suc l - c) = ap not (mirror true (suc l - c)) ∙ not_not (down (some_turn (λ i. not (q i))) false l (suc l - c)) in
+      let e : not (down (all_turn q) true l (suc l - c)) ≡ down (some_turn (λ i. not (q i))) false l (suc l - c) = ap not (mirror true (suc l - c)) ∙ not-not (down (some_turn (λ i. not (q i))) false l (suc l - c)) in
       mirror (down (all_turn q) true l (suc l - c)) (suc l - i) ∙ ap (λ (x : Bool). not (down (some_turn (λ i. not (q i))) x l (suc l - i))) e
 
 module _ (l c : ℕ) (good : Loops l c) (q : ℕ → Bool) where

@@ -28,19 +28,32 @@ decides_implies {P = P} {Q = Q} x y d e = (sound, full)
 pub on : (x : Bool) → Decides x (x ≡ true)
 on x = (λ h. h, λ h. h)
 
-module _ (l c : ℕ) (good : Loops l c) where
-  -- each operator can be decided at each step
-  pub column1 : (o : Unary) (x : ℕ → Bool) → (column : ℕ → Bool) × ((i : ℕ) → Within l i → Decides (column i) (Means1 o l c (On x) i))
-  column1 Not x = (λ i. not (x i), λ i w. Decides-not (x i) (on (x i)))
-  column1 Next x = (λ i. x (after l c i), λ i w. on (x (after l c i)))
-  column1 Finally x = (swept (some_turn x) false l c, some_swept l c good x)
-  column1 Globally x = (swept (all_turn x) true l c, all_swept l c good x)
+-- the column of an operator, from those of its sides
+abbrev pub column1 : ℕ → ℕ → Unary → (ℕ → Bool) → ℕ → Bool
+column1 l c Not x i = not (x i)
+column1 l c Next x i = x (after l c i)
+column1 l c Finally x i = swept (some_turn x) false l c i
+column1 l c Globally x i = swept (all_turn x) true l c i
 
-  pub column2 : (o : Binary) (x y : ℕ → Bool) → (column : ℕ → Bool) × ((i : ℕ) → Within l i → Decides (column i) (Means2 o l c (On x) (On y) i))
-  column2 And x y = (λ i. x i && y i, λ i w. Decides-and (x i) (y i) (on (x i)) (on (y i)))
-  column2 Or x y = (λ i. x i || y i, λ i w. Decides-or (x i) (y i) (on (x i)) (on (y i)))
-  column2 Implies x y = (λ i. not (x i) || y i, λ i w. decides_implies (x i) (y i) (on (x i)) (on (y i)))
-  column2 Until x y = (swept (until_turn x y) false l c, until_swept l c good x y)
+abbrev pub column2 : ℕ → ℕ → Binary → (ℕ → Bool) → (ℕ → Bool) → ℕ → Bool
+column2 l c And x y i = x i && y i
+column2 l c Or x y i = x i || y i
+column2 l c Implies x y i = not (x i) || y i
+column2 l c Until x y i = swept (until_turn x y) false l c i
+
+module _ (l c : ℕ) (good : Loops l c) where
+  -- the column says at each step what the operator means there
+  pub decides1 : (o : Unary) (x : ℕ → Bool) (i : ℕ) → Within l i → Decides (column1 l c o x i) (Means1 o l c (On x) i)
+  decides1 Not x i w = Decides-not (x i) (on (x i))
+  decides1 Next x i w = on (x (after l c i))
+  decides1 Finally x i w = some_swept l c good x i w
+  decides1 Globally x i w = all_swept l c good x i w
+
+  pub decides2 : (o : Binary) (x y : ℕ → Bool) (i : ℕ) → Within l i → Decides (column2 l c o x y i) (Means2 o l c (On x) (On y) i)
+  decides2 And x y i w = Decides-and (x i) (y i) (on (x i)) (on (y i))
+  decides2 Or x y i w = Decides-or (x i) (y i) (on (x i)) (on (y i))
+  decides2 Implies x y i w = decides_implies (x i) (y i) (on (x i)) (on (y i))
+  decides2 Until x y i w = until_swept l c good x y i w
 
   module _ {A : Type 0} (holds : A → ℕ → Bool) where
     -- S and R say of the steps what the trees say of the positions that show them
@@ -89,13 +102,11 @@ module _ (l c : ℕ) (good : Loops l c) where
     decided (atom a) = (holds a, truths0 a (holds a) (λ i w. on (holds a i)))
     decided (one o p) =
         let a = decided p in
-        let b = column1 o a.0 in
-        (b.0, truths1 p a.0 a.1 o b.0 b.1)
+        (column1 l c o a.0, truths1 p a.0 a.1 o (column1 l c o a.0) (decides1 o a.0))
     decided (two o p q) =
         let a = decided p in
         let b = decided q in
-        let d = column2 o a.0 b.0 in
-        (d.0, truths2 p a.0 a.1 q b.0 b.1 o d.0 d.1)
+        (column2 l c o a.0 b.0, truths2 p a.0 a.1 q b.0 b.1 o (column2 l c o a.0 b.0) (decides2 o a.0 b.0))
 
     pub shown : (t : Tree A) (j k : ℕ) → word l c j ≡ word l c k → Sat holds (word l c) t j → Sat holds (word l c) t k
     shown t j k e s =

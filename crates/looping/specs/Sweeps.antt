@@ -1,9 +1,6 @@
 -- Passes over a run, from its last step down to its first.
-use Rattle.std.specs.Prelude.{ℕ, zero, suc, ◌-◌, Bool, not, ◌&&◌, ◌||◌}
-use Rattle.looping.specs.declared.Sweep.{Sweep}
-use Rattle.looping.specs.declared.Sweep.TheVariants.{Until, Finally, Globally}
-use Rattle.looping.specs.declared.Gate.{Gate}
-use Rattle.looping.specs.declared.Gate.TheVariants.{Not, And, Or, Implies}
+use Rattle.std.specs.Prelude.{◌≡◌, ℕ, zero, suc, ◌+◌, ◌-◌, ◌<◌, Bool, List, length, slice_index_or}
+use Rattle.looping.specs.Columns.{at}
 
 -- what is carried once the last d of l steps are passed, where `turn` says what step i makes of what is carried to it
 abbrev pub down : (ℕ → Bool → Bool) → Bool → ℕ → ℕ → Bool
@@ -14,19 +11,13 @@ down turn last l (suc d) = turn (l - d) (down turn last l d)
 abbrev pub swept : (ℕ → Bool → Bool) → Bool → ℕ → ℕ → ℕ → Bool
 swept turn first l c i = down turn (down turn first l (suc l - c)) l (suc l - i)
 
--- what a step makes of the truth x that is carried to it, where its sides are a and b
-abbrev pub turned : Sweep → Bool → Bool → Bool → Bool
-turned Until a b x = b || (a && x)
-turned Finally a b x = b || x
-turned Globally a b x = b && x
+-- one pass: each truth is what `turn` makes at its place of the truth after it, and the last is what it makes of `last`
+pub record Passed (turn : ℕ → Bool → Bool → Type 0) (last : Bool) (truths : List Bool) : Type 0 where
+  pub each : (i : ℕ) → i < length truths → turn i (slice_index_or truths (i + 1) last) (slice_index_or truths i last)
 
--- the same at step i of the columns p and q
-abbrev pub turn_at : Sweep → (ℕ → Bool) → (ℕ → Bool) → ℕ → Bool → Bool
-turn_at s p q i x = turned s (p i) (q i) x
-
--- what an operator that looks at one step makes of the truths a and b there
-abbrev pub gated : Gate → Bool → Bool → Bool
-gated Not a b = not a
-gated And a b = a && b
-gated Or a b = a || b
-gated Implies a b = not a || b
+-- two passes: the first begins with `begin`, and the second with what the first has at step c
+pub record PassedTwice (turn : ℕ → Bool → Bool → Type 0) (begin : Bool) (c : ℕ) (truths : List Bool) : Type 0 where
+  pub once : List Bool
+  pub long : length once ≡ length truths
+  pub first : Passed turn begin once
+  pub second : Passed turn (at once c) truths

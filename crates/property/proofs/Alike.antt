@@ -10,21 +10,21 @@ use Rattle.property.specs.Meaning.{Atoms, signal_of}
 use Rattle.property.proofs.Trees.{grows}
 
 -- each atom of the tree has P
-abbrev pub Each : (Atom → Type 0) → Tree Atom → Type 0
+abbrev pub Each : (Atom ℕ → Type 0) → Tree (Atom ℕ) → Type 0
 Each P (atom a) = P a
 Each P (one o p) = Each P p
 Each P (two o p q) = Each P p × Each P q
 
 -- the atoms of a tree in the list look at one of n signals
-pub each_atom : (ns : List Node) (n : ℕ) → Atoms n ns → (t : Tree Atom) (a b : ℕ) → b ≤ length ns → Spans ns a b t → Each (λ x. signal_of x < n) t
+pub each_atom : (ns : List (Node ℕ)) (n : ℕ) → Atoms n ns → (t : Tree (Atom ℕ)) (a b : ℕ) → b ≤ length ns → Spans ns a b t → Each (λ x. signal_of x < n) t
 each_atom ns n given (atom x) a b h (e, q) = given a x (omega arith) q
 each_atom ns n given (one o p) a b h (top, e, q, u) = each_atom ns n given p a top (omega arith) u
 each_atom ns n given (two o p q) a b h (top, mid, e, r, u, v) =
     let g : mid < top = grows ns q mid top v in
     (each_atom ns n given p a mid (omega arith) u, each_atom ns n given q mid top (omega arith) v)
 
-module _ (P : Atom → Type 0) (g h : Atom → ℕ → Bool) (w : ℕ → ℕ) (same : (a : Atom) → P a → (k : ℕ) → g a (w k) ≡ h a (w k)) where
-  pub sat_alike : (t : Tree Atom) → Each P t → (k : ℕ) → Sat g w t k ↔ Sat h w t k
+module _ (P : Atom ℕ → Type 0) (g h : Atom ℕ → ℕ → Bool) (w : ℕ → ℕ) (same : (a : Atom ℕ) → P a → (k : ℕ) → g a (w k) ≡ h a (w k)) where
+  pub sat_alike : (t : Tree (Atom ℕ)) → Each P t → (k : ℕ) → Sat g w t k ↔ Sat h w t k
   sat_alike (atom a) e k = (λ s. sym (same a e k) ∙ s, λ s. same a e k ∙ s)
   sat_alike (one Not p) e k = (λ f s. f ((sat_alike p e k).1 s), λ f s. f ((sat_alike p e k).0 s))
   sat_alike (one Next p) e k = sat_alike p e (suc k)

@@ -1,9 +1,10 @@
--- Columns of a list that has an element for each step and column, read and written step by step.
-use Rattle.std.proofs.Common.{◌≡◌, ℕ, suc, ◌+◌, ◌-◌, ◌*◌, ◌/◌, ◌%◌, ◌<◌, ◌≤◌, Bool, false, List, length, get_or, set, sym, ap, ◌∙◌, subst, inl, inr, mod-lt, mul_comm, arith, get_or-set_other, get_or-set_same}
-use Rattle.std.proofs.lemmas.Bool.{cases_eq}
+-- Places behind the signals of a table: m nodes at each step, step by step.
+use Rattle.std.proofs.Common.{◌≡◌, ℕ, suc, ◌+◌, ◌-◌, ◌*◌, ◌/◌, ◌%◌, ◌<◌, ◌≤◌, Bool, List, ◌++◌, length, take, drop, ℤ, pos, sym, ap, ◌∙◌, subst, mod-lt, mul_comm, arith}
+use Rattle.std.proofs.lemmas.List.{length-take, length-take-le, get_or-take, get_or-drop, get_or-append-add, get_or_append_left}
 use Rattle.std.proofs.lemmas.Nat.{mul-add-lt, div-mul-add, mod-mul-add, div_below, div-add-mod'}
 use Rattle.looping.specs.Words.{Within}
-use Rattle.property.specs.ByNode.{spot, KeptBeside}
+use Rattle.property.specs.Meaning.{value}
+use Rattle.property.specs.ByNode.{spot}
 
 -- a place in step i + 1 lies in a list of l steps
 pub place_below : (m f i l n : ℕ) → f < m → i < l → l * m ≤ n → i * m + f < n
@@ -28,27 +29,25 @@ decode m l p h b =
       place = ap (λ (i : ℕ). i * m + p % m) back ∙ div-add-mod' p m;
     }
 
--- places of one column at two steps differ
-apart : (m f i k : ℕ) → f < m → k * m + f ≡ i * m + f → k ≡ i
-apart m f i k h e = sym (div-mul-add k m f h) ∙ ap (λ (x : ℕ). x / m) e ∙ div-mul-add i m f h
+-- the truth at the place of node f at step j
+pub spot_at : (columns : List (List Bool)) (m f j : ℕ) → length columns ≡ m → f < m → 1 ≤ j
+    → spot columns (((j - 1) * m + f) % length columns) (suc (((j - 1) * m + f) / length columns)) ≡ spot columns f j
+spot_at columns m f j e h low =
+    let step : suc (j - 1) ≡ j = omega arith in
+    ap (λ (k : ℕ). spot columns (((j - 1) * m + f) % k) (suc (((j - 1) * m + f) / k))) e
+    ∙ ap (λ (g : ℕ). spot columns g (suc (((j - 1) * m + f) / m))) (mod-mul-add (j - 1) m f h) ∙ ap (λ (i : ℕ). spot columns f (suc i)) (div-mul-add (j - 1) m f h) ∙ ap (spot columns f) step
 
--- places of two columns differ
-pub columns_apart : (m f g i k : ℕ) → f < m → g < m → k * m + g ≡ i * m + f → g ≡ f
-columns_apart m f g i k h b e = sym (mod-mul-add k m g b) ∙ ap (λ (x : ℕ). x % m) e ∙ mod-mul-add i m f h
+-- what stands behind the signals, read there
+pub stand_read : (start k : ℕ) (table : List ℤ) (p : ℕ) → p < length (take k (drop start table)) → value table (start + p) ≡ value (take k (drop start table)) p
+stand_read start k table p h = sym (get_or-take k (drop start table) p (pos 0) (omega (arith, length-take k (drop start table))) ∙ get_or-drop start table p (pos 0))
 
--- the column is right up to step i, and step i + 1 is written
-pub spot_more : (xs : List Bool) (m f i : ℕ) (v : Bool) (right : ℕ → Bool) → f < m → i * m + f < length xs
-    → ((j : ℕ) → Within i j → spot xs m f j ≡ right j) → v ≡ right (suc i)
-    → (j : ℕ) → Within (i + 1) j → spot (set xs (i * m + f) v) m f j ≡ right j
-spot_more xs m f i v right h b old new j w =
-    elim (cases_eq (j - 1) i) [
-      | inl e ↦
-          let s : suc i ≡ j = omega (arith, w.low) in
-          ap (λ (k : ℕ). get_or (set xs (i * m + f) v) (k * m + f) false) e ∙ get_or-set_same xs (i * m + f) v false b ∙ new ∙ ap right s
-      | inr o ↦
-          get_or-set_other xs (i * m + f) ((j - 1) * m + f) v false (λ e. o (apart m f i (j - 1) h e)) ∙ old j (record { low = w.low; high = omega (arith, w.low, w.high) })
-    ]
+-- and once it is written
+pub stand_written : (start : ℕ) (table places rest : List ℤ) → start ≤ length table → (p : ℕ) → p < length places → value (take start table ++ (places ++ rest)) (start + p) ≡ value places p
+stand_written start table places rest b p h =
+    let e : start ≡ length (take start table) = sym (length-take-le start table b) in
+    ap (λ (k : ℕ). value (take start table ++ (places ++ rest)) (k + p)) e ∙ get_or-append-add (take start table) (places ++ rest) p (pos 0) ∙ get_or_append_left places rest (pos 0) p h
 
--- the places beside the column stay, where a step of it is written
-pub beside_more : (m f l i : ℕ) (old xs : List Bool) (v : Bool) → i < l → KeptBeside m f l old xs → KeptBeside m f l old (set xs (i * m + f) v)
-beside_more m f l i old xs v h kept p o = get_or-set_other xs (i * m + f) p v false (o i h) ∙ kept p o
+-- the signals before it stay
+pub signals_kept : (start : ℕ) (table places rest : List ℤ) → start ≤ length table → (e : ℕ) → e < start → value (take start table ++ (places ++ rest)) e ≡ value table e
+signals_kept start table places rest b e h =
+    get_or_append_left (take start table) (places ++ rest) (pos 0) e (omega (arith, length-take-le start table b)) ∙ get_or-take start table e (pos 0) h

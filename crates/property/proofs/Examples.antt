@@ -1,5 +1,5 @@
 -- Worked examples, which pin the definitions: the property `READ -> F (TEMP < 5)` over two steps, where the run goes on at step 2.
-use Rattle.std.proofs.Common.{◌≡◌, ℕ, zero, suc, ◌<◌, true, false, List, [], ◌∷◌, replicate, ℤ, pos, negsuc, Decides, sym, refl, subst, inl, inr, arith}
+use Rattle.std.proofs.Common.{◌≡◌, ℕ, zero, suc, ◌<◌, ◌==◌, cond, Bool, true, false, List, [], ◌∷◌, replicate, Option, Some, None, ℤ, pos, negsuc, Decides, sym, refl, subst, inl, inr, arith}
 use Rattle.std.proofs.lemmas.Bool.{false≢true}
 use Rattle.looping.specs.declared.Unary.TheVariants.{Not, Finally}
 use Rattle.looping.specs.declared.Binary.TheVariants.{Implies}
@@ -10,24 +10,25 @@ use Rattle.property.specs.declared.nodes.Atom.TheVariants.{Truth, Compare}
 use Rattle.property.specs.declared.nodes.Comparison.TheVariants.{Equal, Less, Greater}
 use Rattle.property.specs.declared.nodes.Node.{Node}
 use Rattle.property.specs.declared.nodes.Node.TheVariants.{Atom as Leaf, One, Two}
-use Rattle.property.specs.Numbering.{size, numbered, OneTree, node, Spans, Rooted, SidesBefore, Started}
+use Rattle.property.specs.Naming.{Renamed}
+use Rattle.property.specs.Numbering.{size, numbered, OneTree, node, Spans, Rooted, SidesBefore, Started, Begins, EachBefore}
 use Rattle.property.specs.Meaning.{value, signal_entry, node_entry, eq_z, compares, signal_of, holds_at, holds, Atoms, Fitting, Says, TruthAt, Filled, LowestWrong}
-use Rattle.property.specs.ByNode.{spot, KeptBeside, Means, Shows, FirstWrong, Inside, Sized, Known, node_at, BySides}
+use Rattle.property.specs.ByNode.{spot, Means, Shows, FirstWrong, Inside, Known, node_at, BySides}
 use Rattle.looping.proofs.Paths.{word_within}
 use Rattle.property.proofs.Trees.{same_tree}
 use Rattle.property.proofs.Numbers.{numbered_spans}
 use Rattle.property.proofs.Sides.{truth_by_sides}
 
-abbrev read : Atom
+abbrev read : Atom ℕ
 read = Truth 0
 
-abbrev cool : Atom
+abbrev cool : Atom ℕ
 cool = Compare 1 Less (pos 5)
 
-abbrev tree : Tree Atom
+abbrev tree : Tree (Atom ℕ)
 tree = two Implies (atom read) (one Finally (atom cool))
 
-abbrev nodes : List Node
+abbrev nodes : List (Node ℕ)
 nodes = Leaf read ∷ Leaf cool ∷ One Finally 1 ∷ Two Implies 0 2 ∷ []
 
 four_nodes : size tree ≡ 4
@@ -47,7 +48,7 @@ is_tree = (omega arith, (tree, refl))
 not_two : OneTree (Leaf read ∷ Leaf read ∷ []) → ⊥
 not_two (h, (t, e)) = ends t (numbered_spans (Leaf read ∷ Leaf read ∷ []) t e)
   where
-    ends : (t : Tree Atom) → Spans (Leaf read ∷ Leaf read ∷ []) 0 2 t → ⊥
+    ends : (t : Tree (Atom ℕ)) → Spans (Leaf read ∷ Leaf read ∷ []) 0 2 t → ⊥
     ends (atom a) (e, q) = omega arith
     ends (one o p) (zero, e, q, u) = omega arith
     ends (one o p) (suc zero, e, q, u) = let z : ◌≡◌ {A = ℕ} 0 1 = cc in omega arith
@@ -74,6 +75,23 @@ started (suc (suc g)) h = absurd (omega arith)
 -- the left side of node 3 ends at 0, just before the right one, which starts at 1 and ends at 2
 sides : SidesBefore (0 ∷ 1 ∷ 1 ∷ []) 3 0 2
 sides = (refl, refl)
+
+-- so the tree that ends at node 3 begins where its left side does
+begins : Begins (0 ∷ 1 ∷ 1 ∷ []) (Two Implies 0 2) 0
+begins = (sides, refl)
+
+leaf_begins : Begins (0 ∷ []) (Leaf cool) 1
+leaf_begins = refl
+
+-- and no tree ends at a node whose side is not just before it
+no_begin : Begins (0 ∷ 1 ∷ []) (One Finally 0) 0 → ⊥
+no_begin (h, e) = omega arith
+
+each_before : EachBefore (0 ∷ 1 ∷ 1 ∷ [])
+each_before zero h = omega arith
+each_before (suc zero) h = omega arith
+each_before (suc (suc zero)) h = omega arith
+each_before (suc (suc (suc g))) h = absurd (omega arith)
 
 -- READ is 1 and then 0, TEMP 7 and then 3; then the truths of the four nodes at step 1, and at step 2
 abbrev table : List ℤ
@@ -120,8 +138,8 @@ cool_at_2 : holds 2 table cool 2 ≡ true
 cool_at_2 = refl
 
 two_signals : Atoms 2 nodes
-two_signals zero a h e = let k : a ≡ read = cc in subst (λ (x : Atom). signal_of x < 2) (sym k) (omega arith)
-two_signals (suc zero) a h e = let k : a ≡ cool = cc in subst (λ (x : Atom). signal_of x < 2) (sym k) (omega arith)
+two_signals zero a h e = let k : a ≡ read = cc in subst (λ (x : Atom ℕ). signal_of x < 2) (sym k) (omega arith)
+two_signals (suc zero) a h e = let k : a ≡ cool = cc in subst (λ (x : Atom ℕ). signal_of x < 2) (sym k) (omega arith)
 two_signals (suc (suc zero)) a h e = let z : ◌≡◌ {A = ℕ} 0 1 = cc in absurd (omega arith)
 two_signals (suc (suc (suc zero))) a h e = let z : ◌≡◌ {A = ℕ} 0 1 = cc in absurd (omega arith)
 two_signals (suc (suc (suc (suc f)))) a h e = absurd (omega arith)
@@ -194,27 +212,25 @@ lowest =
     }
 
 -- truths of two nodes at two steps
-second_at_2 : spot (true ∷ false ∷ false ∷ true ∷ []) 2 1 2 ≡ true
+abbrev columns : List (List Bool)
+columns = (true ∷ false ∷ []) ∷ (false ∷ true ∷ []) ∷ []
+
+second_at_2 : spot columns 1 2 ≡ true
 second_at_2 = refl
 
-beside : KeptBeside 2 1 2 (true ∷ false ∷ true ∷ false ∷ []) (true ∷ true ∷ true ∷ true ∷ [])
-beside zero o = refl
-beside (suc zero) o = absurd (o 0 (omega arith) refl)
-beside (suc (suc zero)) o = refl
-beside (suc (suc (suc zero))) o = absurd (o 1 (omega arith) refl)
-beside (suc (suc (suc (suc p)))) o = refl
+-- behind the signals they stand step by step
+third_place : Shows columns 2 (pos 0)
+third_place = refl
 
-shows : Shows (pos 7 ∷ pos 0 ∷ pos 1 ∷ []) 1 (false ∷ true ∷ []) 1
-shows = refl
+last_place : Shows columns 3 (pos 1)
+last_place = refl
 
-first_wrong : FirstWrong (pos 7 ∷ pos 0 ∷ pos 0 ∷ []) 1 (false ∷ true ∷ []) 2 2
+first_wrong : FirstWrong columns (pos 1 ∷ pos 1 ∷ pos 0 ∷ pos 1 ∷ []) 1
 first_wrong =
     record {
-      p = 1;
       few = omega arith;
-      entry = refl;
       wrong = λ e. let z : ◌≡◌ {A = ℕ} 0 1 = cc e in omega arith;
-      lower = λ q h. let k : q ≡ 0 = omega arith in subst (Shows (pos 7 ∷ pos 0 ∷ pos 0 ∷ []) 1 (false ∷ true ∷ [])) (sym k) refl;
+      lower = λ q h. let k : q ≡ 0 = omega arith in subst (λ (p : ℕ). Shows columns p (value (pos 1 ∷ pos 1 ∷ pos 0 ∷ pos 1 ∷ []) p)) (sym k) refl;
     }
 
 inside : Inside 2 4 (Two Implies 0 2)
@@ -223,15 +239,28 @@ inside = (omega arith, omega arith)
 outside : Inside 1 4 (Leaf cool) → ⊥
 outside h = omega arith
 
-sized : Sized 1 1 1 1 (pos 1 ∷ []) (true ∷ [])
-sized = record { loops = record { low = omega arith; high = omega arith }; steps = omega arith; signals = omega arith; nodes = omega arith }
-
 -- the truths of `READ` over one step
-known : Known (Leaf read ∷ []) 1 1 1 (pos 1 ∷ []) (true ∷ []) 1
+known : Known (Leaf read ∷ []) 1 1 1 (pos 1 ∷ []) ((true ∷ []) ∷ [])
 known zero h s t u k =
     let only = same_tree (Leaf read ∷ []) t (atom read) s 1 0 1 refl u (refl, refl) in
     let w = word_within 1 1 (record { low = omega arith; high = omega arith }) k in
     let first : 1 ≡ word 1 1 k = omega (arith, w.low, w.high) in
-    subst (λ (v : Tree Atom). Decides (spot (true ∷ []) 1 0 (word 1 1 k)) (Sat (holds 1 (pos 1 ∷ [])) (word 1 1) v k)) (sym only.1)
-    (subst (λ (j : ℕ). Decides (spot (true ∷ []) 1 0 j) (holds 1 (pos 1 ∷ []) read j ≡ true)) first (λ e. refl, λ e. refl))
+    subst (λ (v : Tree (Atom ℕ)). Decides (spot ((true ∷ []) ∷ []) 0 (word 1 1 k)) (Sat (holds 1 (pos 1 ∷ [])) (word 1 1) v k)) (sym only.1)
+    (subst (λ (j : ℕ). Decides (spot ((true ∷ []) ∷ []) 0 j) (holds 1 (pos 1 ∷ []) read j ≡ true)) first (λ e. refl, λ e. refl))
 known (suc f) h s t u k = absurd (omega arith)
+
+-- each name is the number one above it, and 9 is no name
+abbrev above : ℕ → Option ℕ → Type 0
+above s o = o ≡ cond (s == 9) None (Some (suc s))
+
+named : Renamed above (Leaf (Compare 1 Less (pos 5))) (Some (Leaf (Compare 2 Less (pos 5))))
+named = (Compare 2 Less (pos 5), (2, refl, refl), refl)
+
+no_name : Renamed above (Leaf (Truth 9)) None
+no_name = refl
+
+wrong_name : Renamed above (Leaf (Truth 1)) (Some (Leaf (Truth 1))) → ⊥
+wrong_name (a, (r, e, f), g) = let z : ◌≡◌ {A = ℕ} 1 2 = cc in omega arith
+
+no_signal : Renamed above (One Finally 1) (Some (One Finally 1))
+no_signal = refl

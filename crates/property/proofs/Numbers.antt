@@ -9,7 +9,7 @@ use Rattle.property.specs.declared.nodes.Node.{Node}
 use Rattle.property.specs.declared.nodes.Node.TheVariants.{Atom as Leaf, One, Two}
 use Rattle.property.specs.Numbering.{size, numbered, node, Spans}
 
-pub length-numbered : (n : ℕ) (t : Tree Atom) → length (numbered n t) ≡ size t
+pub length-numbered : (n : ℕ) (t : Tree (Atom ℕ)) → length (numbered n t) ≡ size t
 length-numbered n (atom a) = refl
 length-numbered n (one o p) = length-append (numbered n p) (One o (n + size p - 1) ∷ []) ∙ ap (λ (k : ℕ). k + 1) (length-numbered n p)
 length-numbered n (two o p q) =
@@ -20,20 +20,20 @@ length-numbered n (two o p q) =
     let d = length-append (numbered (n + size p) q) last in
     omega (arith, e, d)
 
-module _ (ns : List Node) where
+module _ (ns : List (Node ℕ)) where
   -- the nodes from n on begin with xs
-  abbrev Stands : ℕ → List Node → Type 0
+  abbrev Stands : ℕ → List (Node ℕ) → Type 0
   Stands n xs = (k : ℕ) → k < length xs → node ns (n + k) ≡ node xs k
 
-  left : (n : ℕ) (xs ys : List Node) → Stands n (xs ++ ys) → Stands n xs
+  left : (n : ℕ) (xs ys : List (Node ℕ)) → Stands n (xs ++ ys) → Stands n xs
   left n xs ys s k h = s k (omega (arith, length-append xs ys)) ∙ get_or_append_left xs ys (Leaf (Truth 0)) k h
 
-  right : (n m : ℕ) (xs ys : List Node) → n + length xs ≡ m → Stands n (xs ++ ys) → Stands m ys
+  right : (n m : ℕ) (xs ys : List (Node ℕ)) → n + length xs ≡ m → Stands n (xs ++ ys) → Stands m ys
   right n m xs ys e s k h =
       let at : m + k ≡ n + (length xs + k) = omega arith in
       ap (node ns) at ∙ s (length xs + k) (omega (arith, length-append xs ys)) ∙ get_or-append-add xs ys k (Leaf (Truth 0))
 
-  join : (n m : ℕ) (xs ys : List Node) → n + length xs ≡ m → Stands n xs → Stands m ys → Stands n (xs ++ ys)
+  join : (n m : ℕ) (xs ys : List (Node ℕ)) → n + length xs ≡ m → Stands n xs → Stands m ys → Stands n (xs ++ ys)
   join n m xs ys e s r k h =
       elim (cases_lt k (length xs)) [
         | inl b ↦ s k b ∙ sym (get_or_append_left xs ys (Leaf (Truth 0)) k b)
@@ -42,14 +42,14 @@ module _ (ns : List Node) where
             ap (node ns) at ∙ r (k - length xs) (omega (arith, length-append xs ys)) ∙ sym (get_or-append_right xs ys (length xs) k (Leaf (Truth 0)) refl b)
       ]
 
-  single : (n : ℕ) (x : Node) → node ns n ≡ x → Stands n (x ∷ [])
+  single : (n : ℕ) (x : Node ℕ) → node ns n ≡ x → Stands n (x ∷ [])
   single n x e zero h = ap (node ns) (add-zero n) ∙ e
   single n x e (suc k) h = absurd (omega arith)
 
-  only : (n : ℕ) (x : Node) → Stands n (x ∷ []) → node ns n ≡ x
+  only : (n : ℕ) (x : Node ℕ) → Stands n (x ∷ []) → node ns n ≡ x
   only n x s = ap (node ns) (sym (add-zero n)) ∙ s 0 (omega arith)
 
-  stands_spans : (t : Tree Atom) (n m : ℕ) → n + size t ≡ m → Stands n (numbered n t) → Spans ns n m t
+  stands_spans : (t : Tree (Atom ℕ)) (n m : ℕ) → n + size t ≡ m → Stands n (numbered n t) → Spans ns n m t
   stands_spans (atom a) n m e s = let k : m ≡ suc n = omega arith in (k, only n (Leaf a) s)
   stands_spans (one o p) n m e s =
       let top : n + length (numbered n p) ≡ n + size p = ap (λ (k : ℕ). n + k) (length-numbered n p) in
@@ -74,7 +74,7 @@ module _ (ns : List Node) where
         stands_spans q (n + size p) (n + size p + size q) refl (left (n + size p) (numbered (n + size p) q) last rest),
       )
 
-  spans_stands : (t : Tree Atom) (n m : ℕ) → Spans ns n m t → (m ≡ n + size t) × Stands n (numbered n t)
+  spans_stands : (t : Tree (Atom ℕ)) (n m : ℕ) → Spans ns n m t → (m ≡ n + size t) × Stands n (numbered n t)
   spans_stands (atom a) n m (e, x) = (omega arith, single n (Leaf a) x)
   spans_stands (one o p) n m (top, e, x, s) =
       let r = spans_stands p n top s in
@@ -93,12 +93,12 @@ module _ (ns : List Node) where
             (single (n + size p + size q) last y)),
       )
 
-  pub numbered_spans : (t : Tree Atom) → ns ≡ numbered 0 t → Spans ns 0 (length ns) t
+  pub numbered_spans : (t : Tree (Atom ℕ)) → ns ≡ numbered 0 t → Spans ns 0 (length ns) t
   numbered_spans t e =
       let long : 0 + size t ≡ length ns = zero-add (size t) ∙ sym (ap length e ∙ length-numbered 0 t) in
-      stands_spans t 0 (length ns) long (λ k h. ap (node ns) (zero-add k) ∙ ap (λ (xs : List Node). node xs k) e)
+      stands_spans t 0 (length ns) long (λ k h. ap (node ns) (zero-add k) ∙ ap (λ (xs : List (Node ℕ)). node xs k) e)
 
-  pub spans_numbered : (t : Tree Atom) → Spans ns 0 (length ns) t → ns ≡ numbered 0 t
+  pub spans_numbered : (t : Tree (Atom ℕ)) → Spans ns 0 (length ns) t → ns ≡ numbered 0 t
   spans_numbered t s =
       let r = spans_stands t 0 (length ns) s in
       let long : length ns ≡ length (numbered 0 t) = r.0 ∙ zero-add (size t) ∙ sym (length-numbered 0 t) in

@@ -37,7 +37,7 @@ says_same v w e (inl x) (inr y) = absurd (y.1 (e.0 x.1))
 says_same v w e (inr x) (inl y) = absurd (x.1 (e.1 y.1))
 says_same v w e (inr x) (inr y) = x.0 ∙ sym y.0
 
-module _ (ns : List Node) (n l c : ℕ) (table : List ℤ) (tree : OneTree ns) (good : Loops l c) where
+module _ (ns : List (Node ℕ)) (n l c : ℕ) (table : List ℤ) (tree : OneTree ns) (good : Loops l c) where
   abbrev Columns : ℕ → Type 0
   Columns count = Right ns (holds n table) l c good (node_at n (length ns) l table) count
 

@@ -9,8 +9,8 @@ use Rattle.property.specs.declared.nodes.Node.{Node}
 use Rattle.property.specs.declared.nodes.Node.TheVariants.{Atom as Leaf, One, Two}
 use Rattle.property.specs.Numbering.{node, Spans, Rooted}
 
-module _ (ns : List Node) where
-  pub grows : (t : Tree Atom) (a b : ℕ) → Spans ns a b t → a < b
+module _ (ns : List (Node ℕ)) where
+  pub grows : (t : Tree (Atom ℕ)) (a b : ℕ) → Spans ns a b t → a < b
   grows (atom x) a b s = omega arith
   grows (one o p) a b (top, e, n, s) = let h : a < top = grows p a top s in omega arith
   grows (two o p q) a b (top, mid, e, n, s, r) =
@@ -19,7 +19,7 @@ module _ (ns : List Node) where
       omega arith
 
   -- a tree's last node says where it starts, and which tree it is
-  pub same_tree : (t u : Tree Atom) (a b c d : ℕ) → b ≡ d → Spans ns a b t → Spans ns c d u → (a ≡ c) × (t ≡ u)
+  pub same_tree : (t u : Tree (Atom ℕ)) (a b c d : ℕ) → b ≡ d → Spans ns a b t → Spans ns c d u → (a ≡ c) × (t ≡ u)
   same_tree (atom x) (atom y) a b c d e (f, n) (g, m) =
       let h : a ≡ c = omega arith in
       let k : x ≡ y = cc in
@@ -58,13 +58,13 @@ module _ (ns : List Node) where
       let k : o ≡ o' = cc in
       let i = same_tree q v mid top mid' top' h s s' in
       let j = same_tree p u a mid c mid' i.0 r r' in
-      (j.0, ap (λ (w : Binary). two w p q) k ∙ ap (λ (w : Tree Atom). two o' w q) j.1 ∙ ap (two o' u) i.1)
+      (j.0, ap (λ (w : Binary). two w p q) k ∙ ap (λ (w : Tree (Atom ℕ)). two o' w q) j.1 ∙ ap (two o' u) i.1)
 
   pub rooted_same : (f s t : ℕ) → Rooted ns f s → Rooted ns f t → s ≡ t
   rooted_same f s t r q = (same_tree r.0 q.0 s (suc f) t (suc f) refl r.1 q.1).0
 
   -- each node of a tree is the last of a tree
-  pub inside : (t : Tree Atom) (a b f : ℕ) → Spans ns a b t → a ≤ f → f < b → (s : ℕ) × Rooted ns f s
+  pub inside : (t : Tree (Atom ℕ)) (a b f : ℕ) → Spans ns a b t → a ≤ f → f < b → (s : ℕ) × Rooted ns f s
   inside (atom x) a b f (e, n) h k = let q : b ≡ suc f = omega arith in (a, (atom x, (sym q ∙ e, n)))
   inside (one o p) a b f (top, e, n, s) h k =
       elim (cases_lt f top) [
@@ -78,7 +78,7 @@ module _ (ns : List Node) where
       ]
 
   module _ (f : ℕ) where
-    pub make_atom : (x : Atom) → node ns f ≡ Leaf x → Rooted ns f f
+    pub make_atom : (x : Atom ℕ) → node ns f ≡ Leaf x → Rooted ns f f
     make_atom x n = (atom x, (refl, n))
 
     pub make_one : (o : Unary) (x s : ℕ) → node ns f ≡ One o x → suc x ≡ f → Rooted ns x s → Rooted ns f s

@@ -1,6 +1,7 @@
 -- The truths of a property's nodes over a looping run, in one table of values.
 -- Of n signals and m nodes over l steps, signal s at step j is entry (j - 1) * n + s, and node f at step j is entry n * l + (j - 1) * m + f.
 use Rattle.std.specs.Prelude.{◌≡◌, ℕ, suc, ◌+◌, ◌-◌, ◌*◌, ◌<◌, ◌≤◌, Bool, false, ◌⊎◌, List, length, ℤ, pos, negsuc, ◌==◌, int_lt, slice_index_or}
+use Rattle.looping.specs.Limits.{step_limit, signal_limit}
 use Rattle.looping.specs.Words.{word, Loops, Within}
 use Rattle.looping.specs.Logic.{Tree, Sat}
 use Rattle.property.specs.declared.nodes.Atom.{Atom}
@@ -10,14 +11,6 @@ use Rattle.property.specs.declared.nodes.Comparison.TheVariants.{Equal, Less, Gr
 use Rattle.property.specs.declared.nodes.Node.{Node}
 use Rattle.property.specs.declared.nodes.Node.TheVariants.{Atom as Leaf}
 use Rattle.property.specs.Numbering.{OneTree, Spans, node}
-
--- the most steps that a run has
-abbrev pub step_limit : ℕ
-step_limit = 64
-
--- the most signals that a diagram has
-abbrev pub signal_limit : ℕ
-signal_limit = 1024
 
 -- the value of an entry
 abbrev pub value : List ℤ → ℕ → ℤ
@@ -45,25 +38,25 @@ compares Less v k = int_lt v k
 compares Greater v k = int_lt k v
 
 -- the signal that an atom looks at
-abbrev pub signal_of : Atom → ℕ
+abbrev pub signal_of : Atom ℕ → ℕ
 signal_of (Truth s) = s
 signal_of (Compare s o k) = s
 
 -- whether the atom holds where its signal has the value
-abbrev pub holds_at : Atom → ℤ → Bool
+abbrev pub holds_at : Atom ℕ → ℤ → Bool
 holds_at (Truth s) v = eq_z v (pos 1)
 holds_at (Compare s o k) v = compares o v k
 
 -- whether the atom holds at step j of the table, with n signals
-abbrev pub holds : ℕ → List ℤ → Atom → ℕ → Bool
+abbrev pub holds : ℕ → List ℤ → Atom ℕ → ℕ → Bool
 holds n table a j = holds_at a (value table (signal_entry n (signal_of a) j))
 
 -- each atom looks at one of n signals
-abbrev pub Atoms : ℕ → List Node → Type 0
-Atoms n ns = (f : ℕ) (a : Atom) → f < length ns → node ns f ≡ Leaf a → signal_of a < n
+abbrev pub Atoms : ℕ → List (Node ℕ) → Type 0
+Atoms n ns = (f : ℕ) (a : Atom ℕ) → f < length ns → node ns f ≡ Leaf a → signal_of a < n
 
 -- a property and a table of n signals fit a run of l steps that goes on at step c
-pub record Fitting (ns : List Node) (n l c : ℕ) (table : List ℤ) : Type 0 where
+pub record Fitting (ns : List (Node ℕ)) (n l c : ℕ) (table : List ℤ) : Type 0 where
   pub tree : OneTree ns
   pub atoms : Atoms n ns
   pub signals : n ≤ signal_limit
@@ -76,17 +69,17 @@ abbrev pub Says : ℤ → Type 0 → Type 0
 Says v P = ((v ≡ pos 1) × P) ⊎ ((v ≡ pos 0) × (P → ⊥))
 
 -- node f has its truth at step j: at every position that shows the step, the entry says whether the node's tree holds there
-abbrev pub TruthAt : List Node → ℕ → ℕ → ℕ → List ℤ → ℕ → ℕ → Type 0
+abbrev pub TruthAt : List (Node ℕ) → ℕ → ℕ → ℕ → List ℤ → ℕ → ℕ → Type 0
 TruthAt ns n l c table f j =
-    (s : ℕ) (t : Tree Atom) → Spans ns s (suc f) t → (k : ℕ) → word l c k ≡ j
+    (s : ℕ) (t : Tree (Atom ℕ)) → Spans ns s (suc f) t → (k : ℕ) → word l c k ≡ j
     → Says (value table (node_entry n (length ns) l f j)) (Sat (holds n table) (word l c) t k)
 
 -- each node has its truth at each step
-abbrev pub Filled : List Node → ℕ → ℕ → ℕ → List ℤ → Type 0
+abbrev pub Filled : List (Node ℕ) → ℕ → ℕ → ℕ → List ℤ → Type 0
 Filled ns n l c table = (f j : ℕ) → f < length ns → TruthAt ns n l c table f j
 
 -- of the nodes' entries, e is the lowest whose value is not the truth of its node at its step: node f at step j
-pub record LowestWrong (ns : List Node) (n l c : ℕ) (table : List ℤ) (e : ℕ) : Type 0 where
+pub record LowestWrong (ns : List (Node ℕ)) (n l c : ℕ) (table : List ℤ) (e : ℕ) : Type 0 where
   pub f : ℕ
   pub j : ℕ
   pub known : f < length ns

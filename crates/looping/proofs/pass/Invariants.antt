@@ -1,10 +1,7 @@
-use Rattle.std.proofs.Common.{◌≡◌, ℕ, suc, ◌-◌, ◌<◌, ◌≤◌}
-use Rattle.looping.specs.Columns.{at, Kept}
-use Rattle.looping.specs.Sweeps.{down, turn_at}
+use Rattle.std.proofs.Common.{◌≡◌, ℕ, ◌+◌, ◌<◌, ◌≤◌, length, slice_index_or}
 use Rattle.looping.proofs.pass.Given as goal
 
 abbrev pub invariant-loop-i : goal.invariant-loop-i
-invariant-loop-i l =
-    (l.carried ≡ down (turn_at l.sweep (at l.left) (at l.right)) l.last l.steps (l.steps - l.i))
-    × ((j : ℕ) → l.i < j → j ≤ l.steps → at l.truths j ≡ down (turn_at l.sweep (at l.left) (at l.right)) l.last l.steps (suc l.steps - j))
-    × Kept l.steps l.initial.truths l.truths
+invariant-loop-i g l =
+    (l.carried ≡ slice_index_or l.truths l.i l.last)
+    × ((j : ℕ) → l.i ≤ j → j < length l.truths → goal.F-post g l.turn j (slice_index_or l.truths (j + 1) l.last) (slice_index_or l.truths j l.last))
