@@ -1,5 +1,5 @@
 -- Which sets of pins force a function of rows.
-use Rattle.std.specs.Prelude.{◌≡◌, ℕ, ◌<◌, ◌≤◌, Bool, true, false, not, ◌≢◌, List, length, replicate, ℤ, pos, is_some, Some, None, Decides, Option, MatchOption, slice_index_or, refl}
+use Rattle.std.specs.Prelude.{◌≡◌, ℕ, ◌<◌, ◌≤◌, Bool, true, false, ◌≢◌, List, length, replicate, ℤ, pos, Decides, MatchBool, slice_index_or, refl}
 use Rattle.std.proofs.Common.{sym, ap, subst, ◌∙◌, ⊎_elim, arith, length-set, get_or-set_same, get_or-set_other}
 use Rattle.std.proofs.Math.ListN as ln
 use Rattle.std.proofs.lemmas.List.{ext_get_or, get_or_past, get_or-replicate, length-replicate}
@@ -8,26 +8,17 @@ use Rattle.blocks.specs.declared.types.ValueType.{ValueType}
 use Rattle.blocks.specs.declared.types.ValueType.TheVariants.{Truth}
 use Rattle.blocks.specs.Blocks.{InType, Lawful, Has, Agree, Forces}
 use Rattle.blocks.specs.Filled.{filled, FirstFree}
-use Rattle.blocks.specs.Laws.{SupersetForces, FullForces, LooksAtSet}
+use Rattle.blocks.specs.Laws.{FullForces}
 use Rattle.blocks.proofs.Fills.{cases_has, filled_eight, filled_free, filled_kept, filled_past}
 
 -- ---- any pin types
 
-module _ (pins : List ValueType) (f : List ℤ → ℤ) where
-  pub superset_forces : SupersetForces pins f
-  superset_forces row set more within forces other g agree = forces other g (λ k h has. agree k h (within k h has))
-
-  pub full_set_forces : FullForces pins f
-  full_set_forces row set good all other g agree =
-      ap f (ext_get_or (pos 0) other row (g.eight ∙ sym good.eight) (λ k h. ⊎_elim
-      (λ b. agree k (omega (arith, g.eight)) (all k b))
-      (λ b. g.padded k b ∙ sym (good.padded k b))
-      (cases_lt k (length pins))))
-
-  pub looks_at_set : LooksAtSet pins f
-  looks_at_set row other set g agree forces =
-      let same = forces other g agree in
-      (λ third t also. forces third t (λ k h has. also k h has ∙ agree k h has) ∙ sym same, same)
+pub full_set_forces : (pins : List ValueType) (f : List ℤ → ℤ) → FullForces pins f
+full_set_forces pins f row set good all other g agree =
+    ap f (ext_get_or (pos 0) other row (g.eight ∙ sym good.eight) (λ k h. ⊎_elim
+    (λ b. agree k (omega (arith, g.eight)) (all k b))
+    (λ b. g.padded k b ∙ sym (good.padded k b))
+    (cases_lt k (length pins))))
 
 -- ---- all pins of one type
 
@@ -104,8 +95,8 @@ module _ (t : ValueType) (count : ℕ) where
       λ forces. d.1 (forces _ (fill_lawful low tl) (λ k h has. filled_kept set row low count k h has) ∙ sym (forces _ (fill_lawful high th) (λ k h has. filled_kept set row high count k h has))),
     )
 
--- a block that needs all its pins: `free_pin` finds none
-pub needs_all : (count set : ℕ) (o : Option ℕ) (r : Bool) (P : Type 0) → MatchOption o ((k : ℕ) → k < count → Has set k) (FirstFree count set) → is_some o ≡ not r
+-- a block that needs all its pins: whether every pin is in the set
+pub needs_all : (count set : ℕ) (r : Bool) (P : Type 0) → MatchBool r ((k : ℕ) → k < count → Has set k) ((j : ℕ) × FirstFree count set j)
     → (((k : ℕ) → k < count → Has set k) → P) → ((j : ℕ) → FirstFree count set j → P → ⊥) → Decides r P
-needs_all count set None r P found e full free = (λ _. full found, λ _. grind arith)
-needs_all count set (Some j) r P found e full free = (λ y. absurd (let z : false ≡ true = grind arith in false≢true z), λ p. absurd (free j found p))
+needs_all count set true P all full free = (λ _. full all, λ _. refl)
+needs_all count set false P one full free = (λ e. absurd (false≢true e), λ p. absurd (free one.0 one.1 p))

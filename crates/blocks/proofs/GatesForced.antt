@@ -1,19 +1,21 @@
 -- Which sets of pins force a gate.
-use Rattle.std.specs.Prelude.{◌≡◌, ℕ, zero, suc, ◌<◌, ◌≤◌, Bool, true, false, not, ◌≢◌, List, length, get_or, replicate, ℤ, pos, Decides, slice_index_or, refl}
-use Rattle.std.proofs.Common.{sym, ap, subst, ◌∙◌, inl, inr, ⊎_elim, arith, get_or-set_same, get_or-set_other}
-use Rattle.std.specs.Bool.{beq}
+use Rattle.std.specs.Prelude.{◌≡◌, ℕ, zero, suc, ◌+◌, ◌%◌, ◌<◌, ◌≤◌, Bool, true, false, cond, not, ◌≢◌, List, map, length, get_or, replicate, ℤ, pos, count_by, Decides, ◌==◌, slice_index_or, refl}
+use Rattle.std.proofs.Common.{sym, ap, subst, inl, inr, ⊎_elim, arith}
+use Rattle.std.specs.List.{list_all, list_any, range_with_len}
 use Rattle.std.proofs.Math.ListN as ln
-use Rattle.std.proofs.lemmas.List.{get_or-replicate}
-use Rattle.std.proofs.lemmas.Bool.{cases_eq, false≢true}
+use Rattle.std.proofs.lemmas.List.{get_or_past, get_or-replicate}
+use Rattle.std.proofs.lemmas.List.Sums.{sum_by-set}
+use Rattle.std.proofs.lemmas.Bool.{cases_lt, false≢true}
 use Rattle.std.proofs.lemmas.Bool.Decides.{nat_tests}
 use Rattle.blocks.specs.declared.types.ValueType.TheVariants.{Truth}
 use Rattle.blocks.specs.declared.gates.Gate.{Gate}
 use Rattle.blocks.specs.declared.gates.Gate.TheVariants.{And, Or, Xor, Not, Pass}
-use Rattle.blocks.specs.Blocks.{InType, Lawful, Agree, Forces, of_bool}
+use Rattle.blocks.specs.Blocks.{InType, Lawful, Agree, Forces, of_bool, places}
 use Rattle.blocks.specs.Filled.{filled, FirstFree}
-use Rattle.blocks.specs.Gates.{is_one, takes, all_one, any_one, odd_ones, holds, gate_result}
+use Rattle.blocks.specs.Gates.{is_one, takes, odd_ones, holds, gate_result}
 use Rattle.blocks.proofs.Forcing.{changed, squeezed, fill_stands}
-use Rattle.blocks.proofs.Ones.{of_bool_same, truth_value, beq_same, same_beq}
+use Rattle.blocks.proofs.Rows.{length-places, get_or-places, places-set}
+use Rattle.blocks.proofs.Ones.{of_bool_same, truth_value}
 
 -- a gate takes a pin
 pub takes_some : (g : Gate) (c : ℕ) → takes g c ≡ true → 0 < c
@@ -26,40 +28,29 @@ abbrev Then : Bool → Bool → Type 0
 Then a b = a ≡ true → b ≡ true
 
 module _ (x y : List ℤ) where
-  all_grows : (n : ℕ) → ((k : ℕ) → k < n → Then (is_one (slice_index_or x k (pos 0))) (is_one (slice_index_or y k (pos 0)))) → Then (all_one n x) (all_one n y)
-  all_grows zero h e = refl
-  all_grows (suc n) h e = let r = all_grows n (λ k l. h k (omega arith)) in let s = h n (omega arith) in grind arith
+  all_grows : (a n : ℕ) → ((k : ℕ) → k < a + n → Then (is_one (slice_index_or x k (pos 0))) (is_one (slice_index_or y k (pos 0))))
+      → Then (list_all is_one (map (λ k. slice_index_or x k (pos 0)) (range_with_len a n))) (list_all is_one (map (λ k. slice_index_or y k (pos 0)) (range_with_len a n)))
+  all_grows a zero h e = refl
+  all_grows a (suc n) h e = let r = all_grows (a + 1) n (λ k l. h k (omega arith)) in let s = h a (omega arith) in grind arith
 
-  any_grows : (n : ℕ) → ((k : ℕ) → k < n → Then (is_one (slice_index_or x k (pos 0))) (is_one (slice_index_or y k (pos 0)))) → Then (any_one n x) (any_one n y)
-  any_grows zero h e = e
-  any_grows (suc n) h e = let r = any_grows n (λ k l. h k (omega arith)) in let s = h n (omega arith) in grind arith
+  any_grows : (a n : ℕ) → ((k : ℕ) → k < a + n → Then (is_one (slice_index_or x k (pos 0))) (is_one (slice_index_or y k (pos 0))))
+      → Then (list_any is_one (map (λ k. slice_index_or x k (pos 0)) (range_with_len a n))) (list_any is_one (map (λ k. slice_index_or y k (pos 0)) (range_with_len a n)))
+  any_grows a zero h e = e
+  any_grows a (suc n) h e = let r = any_grows (a + 1) n (λ k l. h k (omega arith)) in let s = h a (omega arith) in grind arith
 
 -- ---- one place changed
 
-odd_same : (n j : ℕ) (row : List ℤ) (v : ℤ) → n ≤ j → odd_ones n (ln.set row j v) ≡ odd_ones n row
-odd_same zero j row v h = refl
-odd_same (suc n) j row v h =
-    let ne : n ≢ j = omega arith in
-    let e = get_or-set_other row j n v (pos 0) ne in
-    let r = odd_same n j row v (omega arith) in
-    rw (e, r)
-
+-- the other truth at one place makes the number of ones odd where it was even, and even where it was odd
 odd_flips : (n j : ℕ) (row : List ℤ) (v : ℤ) → j < length row → is_one v ≡ not (is_one (slice_index_or row j (pos 0))) → j < n → odd_ones n (ln.set row j v) ≡ not (odd_ones n row)
-odd_flips zero j row v l f h = absurd (omega arith)
-odd_flips (suc n) j row v l f h = ⊎_elim here (later (odd_flips n j row v l f)) (cases_eq n j)
+odd_flips n j row v l f h =
+    let was = sum_by-set (λ z. cond (is_one z) 1 0) (places n row) j v (pos 0) (omega (arith, length-places n row)) in
+    let old : is_one (get_or (places n row) j (pos 0)) ≡ is_one (slice_index_or row j (pos 0)) = ap is_one (get_or-places n row j h) in
+    rw (places-set n j row v l) (parity (count_by is_one (places n row)) (count_by is_one (ln.set (places n row) j v)) (is_one (slice_index_or row j (pos 0)))
+    (rw (f, old) at was))
   where
-    here : n ≡ j → odd_ones (suc n) (ln.set row j v) ≡ not (odd_ones (suc n) row)
-    here e =
-        let s : get_or (ln.set row j v) n (pos 0) ≡ v = rw e (get_or-set_same row j v (pos 0) l) in
-        let r = odd_same n j row v (omega arith) in
-        let f' : is_one v ≡ not (is_one (slice_index_or row n (pos 0))) = rw e f in
-        grind (arith, s, r, f')
-
-    later : (j < n → odd_ones n (ln.set row j v) ≡ not (odd_ones n row)) → (n ≢ j) → odd_ones (suc n) (ln.set row j v) ≡ not (odd_ones (suc n) row)
-    later rec ne =
-        let s = get_or-set_other row j n v (pos 0) ne in
-        let r = rec (omega arith) in
-        grind (arith, s, r)
+    parity : (m n : ℕ) (b : Bool) → n + cond b 1 0 ≡ m + cond (not b) 1 0 → (n % 2 == 1) ≡ not (m % 2 == 1)
+    parity m n true e = grind (arith, nat_tests)
+    parity m n false e = grind (arith, nat_tests)
 
 -- ---- forcing
 
@@ -78,8 +69,8 @@ data Way (g : Gate) : Type 0 where
 
 -- every gate but `xor`
 way : (g : Gate) → (g ≢ Xor) → Way g
-way And _ = gains (λ n x y _ h. all_grows x y n h)
-way Or _ = gains (λ n x y _ h. any_grows x y n h)
+way And _ = gains (λ n x y _ h. all_grows x y 0 n (λ k l. h k (omega arith)))
+way Or _ = gains (λ n x y _ h. any_grows x y 0 n (λ k l. h k (omega arith)))
 way Xor ne = absurd (ne refl)
 way Not _ = loses (λ n x y l h e. let r = h 0 l in grind arith)
 way Pass _ = gains (λ n x y l h. h 0 l)
@@ -89,6 +80,16 @@ between a b c p q e = grind arith
 
 between_down : (a b c : Bool) → Then b a → Then c b → a ≡ c → b ≡ a
 between_down a b c p q e = grind arith
+
+-- the ends are truths
+zero_typed : (k : ℕ) → InType Truth (slice_index_or (replicate 8 (pos 0)) k (pos 0))
+zero_typed k = ⊎_elim
+    (λ h. subst (InType Truth) (sym (get_or-replicate 8 k (pos 0) (pos 0) h)) (inl refl))
+    (λ h. inl (get_or_past (replicate 8 (pos 0)) k (pos 0) h))
+    (cases_lt k 8)
+
+one_typed : (k : ℕ) → k < 8 → InType Truth (slice_index_or (replicate 8 (pos 1)) k (pos 0))
+one_typed k h = subst (InType Truth) (sym (get_or-replicate 8 k (pos 1) (pos 0) h)) (inr refl)
 
 module _ (count : ℕ) (row : List ℤ) (set : ℕ) (few : count ≤ 8) (some : 0 < count) (good : Lawful (replicate count Truth) row) where
   module _ (other : List ℤ) (g : Lawful (replicate count Truth) other) (agree : Agree set row other) where
@@ -109,14 +110,11 @@ module _ (count : ℕ) (row : List ℤ) (set : ℕ) (few : count ≤ 8) (some : 
   lies w (loses p) other g agree e = ap of_bool (between_down _ _ _ (p count _ _ some (from_zeros other g agree)) (p count _ _ some (to_ones other g agree)) (of_bool_same _ _ e))
 
   -- every gate but `xor`: by its outputs with all free pins at zero and at one
-  pub ends_force : (w : Gate) → (w ≢ Xor) → (a b : Bool)
-      → a ≡ holds w count (filled count set row (replicate 8 (pos 0))) → b ≡ holds w count (filled count set row (replicate 8 (pos 1)))
-      → Decides (beq a b) (Forces (replicate count Truth) (gate_result w count) row set)
-  ends_force w ne a b p q =
-      squeezed Truth count row set few good (gate_result w count) (replicate 8 (pos 0)) (replicate 8 (pos 1))
-      (λ k h. subst (InType Truth) (sym (get_or-replicate 8 k (pos 0) (pos 0) (omega arith))) (inl refl))
-      (λ k h. subst (InType Truth) (sym (get_or-replicate 8 k (pos 1) (pos 0) (omega arith))) (inr refl))
-      (lies w (way w ne)) (beq a b) (λ e. ap of_bool (sym p ∙ beq_same a b e ∙ q), λ e. same_beq a b (p ∙ of_bool_same _ _ e ∙ sym q))
+  pub ends_force : (w : Gate) → (w ≢ Xor) → (r : Bool)
+      → Decides r (gate_result w count (filled count set row (replicate 8 (pos 0))) ≡ gate_result w count (filled count set row (replicate 8 (pos 1))))
+      → Decides r (Forces (replicate count Truth) (gate_result w count) row set)
+  ends_force w ne =
+      squeezed Truth count row set few good (gate_result w count) (replicate 8 (pos 0)) (replicate 8 (pos 1)) (λ k h. zero_typed k) (λ k h. one_typed k (omega arith)) (lies w (way w ne))
 
   -- `xor` needs all its pins
   pub xor_free : (j : ℕ) → FirstFree count set j → Forces (replicate count Truth) (gate_result Xor count) row set → ⊥

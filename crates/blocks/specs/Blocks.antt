@@ -1,5 +1,6 @@
 -- What a block is: its pins, the rows it takes, and what a library answers.
-use Rattle.std.specs.Prelude.{◌≡◌, ℕ, ◌/◌, ◌%◌, ◌^◌, ◌<◌, ◌≤◌, Bool, true, false, ◌⊎◌, List, length, take, ℤ, pos, negsuc, ◌≤ℤ◌, Ok, Err, Decides, Result, slice_index_or}
+use Rattle.std.specs.Prelude.{◌≡◌, ℕ, ◌/◌, ◌%◌, ◌^◌, ◌<◌, ◌≤◌, Bool, true, false, ◌⊎◌, List, map, length, take, ℤ, pos, negsuc, ◌≤ℤ◌, Ok, Err, Decides, Result, ◌==◌, slice_index_or}
+use Rattle.std.specs.List.{range_with_len}
 use Rattle.blocks.specs.declared.types.ValueType.{ValueType}
 use Rattle.blocks.specs.declared.types.ValueType.TheVariants.{Truth, Num}
 use Rattle.blocks.specs.declared.types.LibraryFault.{LibraryFault}
@@ -28,9 +29,17 @@ pub record Lawful (pins : List ValueType) (row : List ℤ) : Type 0 where
   pub typed : (k : ℕ) → k < length pins → InType (slice_index_or pins k Truth) (slice_index_or row k (pos 0))
   pub padded : (k : ℕ) → length pins ≤ k → slice_index_or row k (pos 0) ≡ pos 0
 
+-- the values at the first n places of a row
+abbrev pub places : ℕ → List ℤ → List ℤ
+places n row = map (λ k. slice_index_or row k (pos 0)) (range_with_len 0 n)
+
 -- the pin at place k is in the set; a set of pins is its pin sum, where the pin at place k counts 2 ^ k
 abbrev pub Has : ℕ → ℕ → Type 0
 Has set k = (set / 2 ^ k) % 2 ≡ 1
+
+-- the same as a test
+abbrev pub in_set : ℕ → ℕ → Bool
+in_set set k = (set / 2 ^ k) % 2 == 1
 
 -- the other row agrees with this one on the set
 abbrev pub Agree : ℕ → List ℤ → List ℤ → Type 0

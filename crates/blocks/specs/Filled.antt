@@ -1,11 +1,11 @@
 -- Rows that agree on a set of pins and have given values elsewhere.
-use Rattle.std.specs.Prelude.{ℕ, ◌/◌, ◌%◌, ◌^◌, ◌<◌, cond, List, map, ℤ, pos, ◌==◌, nat_lt, slice_index_or}
+use Rattle.std.specs.Prelude.{ℕ, ◌<◌, cond, List, map, ℤ, pos, nat_lt, slice_index_or}
 use Rattle.std.specs.List.{range_with_len}
-use Rattle.blocks.specs.Blocks.{Has}
+use Rattle.blocks.specs.Blocks.{Has, in_set}
 
 -- what the pin at place k shows: its own value if it is in the set, else the other
 abbrev pub shown_at : ℕ → ℕ → ℤ → ℤ → ℤ
-shown_at set k own other = cond ((set / 2 ^ k) % 2 == 1) own other
+shown_at set k own other = cond (in_set set k) own other
 
 -- the row with each pin below the count that is not in the set at its value in `ends`
 unfoldable pub filled : ℕ → ℕ → List ℤ → List ℤ → List ℤ

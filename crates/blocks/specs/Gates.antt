@@ -1,15 +1,20 @@
 -- The gates: their names, the pin counts that each takes, and when its output is one.
-use Rattle.std.specs.Prelude.{ℕ, zero, suc, Bool, true, false, cond, not, ◌&&◌, ◌||◌, List, [], ◌∷◌, ℤ, pos, negsuc, Some, None, codes, Option, ◌==◌, nat_le, slice_index_or}
+use Rattle.std.specs.Prelude.{ℕ, ◌%◌, Bool, false, not, ◌&&◌, List, [], ◌∷◌, ℤ, pos, negsuc, codes, Option, ◌==◌, nat_le, count_by, position, slice_get, slice_index_or}
+use Rattle.std.specs.List.{list_all, list_any}
+use Rattle.std.specs.Str.{bytes_eq}
 use Rattle.blocks.specs.declared.types.ValueType.TheVariants.{Truth}
 use Rattle.blocks.specs.declared.gates.Gate.{Gate}
 use Rattle.blocks.specs.declared.gates.Gate.TheVariants.{And, Or, Xor, Not, Pass}
-use Rattle.blocks.specs.Blocks.{ShapeOf, of_bool}
-use Rattle.blocks.specs.Names.{place_from}
+use Rattle.blocks.specs.Blocks.{ShapeOf, of_bool, places}
 use Rattle.blocks.specs.Uniform.{shape_at, function_at}
+
+-- the gates, in the order of their kind numbers
+abbrev pub gates : List Gate
+gates = And ∷ Or ∷ Xor ∷ Not ∷ Pass ∷ []
 
 -- the kinds, by number
 abbrev pub gate_of : ℕ → Option Gate
-gate_of k = cond (k == 0) (Some And) (cond (k == 1) (Some Or) (cond (k == 2) (Some Xor) (cond (k == 3) (Some Not) (cond (k == 4) (Some Pass) None))))
+gate_of k = slice_get gates k
 
 -- their names, in the order of their numbers
 abbrev pub gate_names : List (List ℕ)
@@ -17,7 +22,7 @@ gate_names = codes "and" ∷ codes "or" ∷ codes "xor" ∷ codes "not" ∷ code
 
 -- the kind of a name
 abbrev pub gate_named : List ℕ → Option ℕ
-gate_named name = place_from 0 gate_names name
+gate_named name = position (bytes_eq name) gate_names
 
 -- the pin counts of a gate
 abbrev pub takes : Gate → ℕ → Bool
@@ -34,18 +39,15 @@ is_one (negsuc n) = false
 
 -- all of the first n places are one
 abbrev pub all_one : ℕ → List ℤ → Bool
-all_one zero row = true
-all_one (suc n) row = is_one (slice_index_or row n (pos 0)) && all_one n row
+all_one n row = list_all is_one (places n row)
 
 -- some of the first n places is one
 abbrev pub any_one : ℕ → List ℤ → Bool
-any_one zero row = false
-any_one (suc n) row = is_one (slice_index_or row n (pos 0)) || any_one n row
+any_one n row = list_any is_one (places n row)
 
 -- an odd number of the first n places is one
 abbrev pub odd_ones : ℕ → List ℤ → Bool
-odd_ones zero row = false
-odd_ones (suc n) row = cond (is_one (slice_index_or row n (pos 0))) (not (odd_ones n row)) (odd_ones n row)
+odd_ones n row = count_by is_one (places n row) % 2 == 1
 
 -- the output of a gate is one
 abbrev pub holds : Gate → ℕ → List ℤ → Bool

@@ -1,10 +1,11 @@
 pub mod Blocks
+pub mod Letters
 pub mod Filled
 pub mod Laws
-pub mod Names
 pub mod Uniform
 pub mod Gates
 pub mod Pair
 pub mod Uniformly
 pub mod Gated
 pub mod Paired
+pub mod Facts

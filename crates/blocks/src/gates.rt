@@ -1,20 +1,20 @@
 // A library of logic gates.
-ghost use Rattle.std.specs.Prelude.{◌≡◌, ◌≤◌, true, replicate, Decides, ◌≢◌};
-ghost use Rattle.blocks.specs.Blocks.{Lawful, Forces};
-ghost use Rattle.blocks.specs.Gates.{all_one, any_one, odd_ones, gate_named, gate_of, takes, holds, gate_result, gate_shape, gate_function};
-ghost use Rattle.blocks.specs.Uniform.{operation_at};
+ghost use Rattle.std.specs.Prelude.{◌≡◌, ◌%◌, ◌==◌, count_by, length};
+ghost use Rattle.std.specs.List.{list_all, list_any};
+ghost use Rattle.blocks.specs.Gates.{gates, gate_named, gate_of, is_one, takes, gate_result, gate_shape, gate_function};
 ghost use Rattle.blocks.specs.declared.types.ValueType.TheVariants.{Truth};
-ghost use Rattle.blocks.specs.Uniformly.{counted_by};
+ghost use Rattle.blocks.specs.Uniformly.{sized_by, counted_by};
 ghost use Rattle.blocks.specs.Gated.{takes_few};
 ghost use Rattle.std.proofs.Common.{rules};
 
 use crate::library::BlockLibrary;
-use crate::named::{NamedLibrary, is_name};
+use crate::named::{NamedLibrary, kind_named};
+use crate::operation::{self, Block, Forcing, Operation};
 use crate::types::{LibraryFault, PINS, Shape, ValueType};
-use crate::values::{fill, free_pin, is_asked, is_lawful, truth, uniform};
+use crate::values::{pins_of, truth};
 
 // The gates, in the order of their kind numbers.
-#[derive(Clone, Copy)]
+#[derive(Clone, Copy, Debug, PartialEq, Eq)]
 pub enum Gate {
     And,
     Or,
@@ -23,138 +23,87 @@ pub enum Gate {
     Pass,
 }
 
-// The gate of a kind.
+const GATES: [Gate; 5] = [Gate::And, Gate::Or, Gate::Xor, Gate::Not, Gate::Pass];
+
+// Their names, in the same order; apart from the gates, since a name is sought in a list of names.
+const NAMES: [&[u8]; 5] = [b"and", b"or", b"xor", b"not", b"pass"];
+
+// The gate of a kind: one call of the library, as in crate `numbers`.
 fn gate_of(kind: u16) -> Option<Gate>
     ensures { result ≡ gate_of kind }
 {
-    match kind {
-        0 => Some(Gate::And),
-        1 => Some(Gate::Or),
-        2 => Some(Gate::Xor),
-        3 => Some(Gate::Not),
-        4 => Some(Gate::Pass),
-        _ => None,
-    }
-}
-
-// Whether a gate takes this many pins.
-fn takes_count(gate: Gate, count: u8) -> bool
-    ensures { result ≡ takes gate count }
-{
-    match gate {
-        Gate::And | Gate::Or | Gate::Xor => 2 <= count && count <= 8,
-        Gate::Not | Gate::Pass => count == 1,
-    }
-}
-
-// The gate of a kind that takes the count, or why there is none.
-fn gate_at(kind: u16, count: u8) -> Result<Gate, LibraryFault>
-    ensures { result ≡ operation_at takes (gate_of kind) count }
-{
-    let Some(gate) = gate_of(kind) else {
-        return Err(LibraryFault::UnknownKind);
-    };
-    if takes_count(gate, count) {
-        Ok(gate)
-    } else {
-        Err(LibraryFault::NoSuchCount)
-    }
+    GATES.get(usize::from(kind)).copied()
 }
 
 // Whether all pins are one.
-fn all_one(count: u8, row: [i16; PINS]) -> bool
-    requires { count ≤ 8 }
-    ensures { result ≡ all_one count row }
+fn all_one(pins: &[i16]) -> bool
+    ensures { result ≡ list_all is_one pins.now }
 {
-    let mut all = true;
-    for k in 0..count {
-        let one = row[k as usize] == 1;
-        all = all && one;
-    }
-    all
+    pins.iter().all(|v| *v == 1)
 }
 
 // Whether some pin is one.
-fn any_one(count: u8, row: [i16; PINS]) -> bool
-    requires { count ≤ 8 }
-    ensures { result ≡ any_one count row }
+fn any_one(pins: &[i16]) -> bool
+    ensures { result ≡ list_any is_one pins.now }
 {
-    let mut any = false;
-    for k in 0..count {
-        let one = row[k as usize] == 1;
-        any = any || one;
-    }
-    any
+    pins.iter().any(|v| *v == 1)
 }
 
 // Whether an odd number of pins is one.
-fn odd_ones(count: u8, row: [i16; PINS]) -> bool
-    requires { count ≤ 8 }
-    ensures { result ≡ odd_ones count row }
+fn odd_ones(pins: &[i16]) -> bool
+    ensures { result ≡ count_by is_one pins.now % 2 == 1 }
 {
-    let mut odd = false;
-    for k in 0..count {
-        if row[k as usize] == 1 {
-            odd = !odd;
+    pins.iter().filter(|v| **v == 1).count() % 2 == 1
+}
+
+impl Operation for Gate {
+    ghost takes = { takes };
+
+    ghost PIN = { Truth };
+
+    const PIN: ValueType = ValueType::Truth;
+
+    ghost output = { λ _. Truth };
+
+    ghost function = { gate_result };
+
+    ghost few = { takes_few };
+
+    ghost lawful = { Prim.search rules };
+
+    fn takes_count(self, count: u8) -> bool {
+        match self {
+            Gate::And | Gate::Or | Gate::Xor => 2 <= count && count <= 8,
+            Gate::Not | Gate::Pass => count == 1,
         }
     }
-    odd
-}
 
-// Whether the output of a gate is one.
-fn is_on(gate: Gate, count: u8, row: [i16; PINS]) -> bool
-    requires { count ≤ 8 }
-    ensures { result ≡ holds gate count row }
-{
-    match gate {
-        Gate::And => all_one(count, row),
-        Gate::Or => any_one(count, row),
-        Gate::Xor => odd_ones(count, row),
-        Gate::Not => row[0] != 1,
-        Gate::Pass => row[0] == 1,
+    fn output_type(self) -> ValueType {
+        ValueType::Truth
+    }
+
+    fn value(block: &Block<Gate>) -> i16 {
+        let pins = pins_of(&block.row, block.count);
+        truth(match block.operation {
+            Gate::And => all_one(pins),
+            Gate::Or => any_one(pins),
+            Gate::Xor => odd_ones(pins),
+            Gate::Not => block.row[0] != 1,
+            Gate::Pass => block.row[0] == 1,
+        })
     }
 }
 
-// The output of a gate.
-fn output(gate: Gate, count: u8, row: [i16; PINS]) -> i16
-    requires { count ≤ 8 }
-    ensures { result ≡ gate_result gate count row }
-{
-    truth(is_on(gate, count, row))
-}
-
-// Whether a set of pins forces `xor`: it needs all its pins.
-fn xor_forced(gate: Gate, count: u8, row: [i16; PINS], pins: u8) -> bool
-    requires xor { gate ≡ Gate.Xor }
-    requires takes { takes gate count ≡ true }
-    requires lawful { Lawful (replicate count ValueType.Truth) row }
-    ensures { Decides result (Forces (replicate count ValueType.Truth) (gate_result gate count) row pins) }
-{
-    free_pin(count, pins).is_none()
-}
-
-// Whether a set of pins forces another gate: its output is the same with the pins outside the set all at
-// zero and all at one.
-fn ends_forced(gate: Gate, count: u8, row: [i16; PINS], pins: u8) -> bool
-    requires other { gate ≢ Gate.Xor }
-    requires takes { takes gate count ≡ true }
-    requires lawful { Lawful (replicate count ValueType.Truth) row }
-    ensures { Decides result (Forces (replicate count ValueType.Truth) (gate_result gate count) row pins) }
-{
-    let zeros = is_on(gate, count, fill(count, row, pins, [0; PINS]));
-    let ones = is_on(gate, count, fill(count, row, pins, [1; PINS]));
-    zeros == ones
-}
-
-// Whether a set of pins forces a gate.
-fn forced(gate: Gate, count: u8, row: [i16; PINS], pins: u8) -> bool
-    requires takes { takes gate count ≡ true }
-    requires lawful { Lawful (replicate count ValueType.Truth) row }
-    ensures { Decides result (Forces (replicate count ValueType.Truth) (gate_result gate count) row pins) }
-{
-    match gate {
-        Gate::Xor => xor_forced(gate, count, row, pins),
-        Gate::And | Gate::Or | Gate::Not | Gate::Pass => ends_forced(gate, count, row, pins),
+impl Forcing for Gate {
+    // `xor` needs all its pins; another gate's output is the same with the pins outside the set all at zero
+    // and all at one.
+    fn forced(block: &Block<Gate>, pins: u8) -> bool {
+        match block.operation {
+            Gate::Xor => block.has_all(pins),
+            Gate::And | Gate::Or | Gate::Not | Gate::Pass => block.same_at(
+                pins, [0; PINS], [1; PINS],
+            ),
+        }
     }
 }
 
@@ -169,27 +118,23 @@ impl BlockLibrary for Gates {
 
     ghost function = { λ _ k c row. gate_function k c row };
 
-    ghost sized = { Prim.search rules };
+    ghost sized = { λ _. sized_by takes Truth (λ _. Truth) gate_result gates (Prim.search rules) };
 
     ghost counted = { λ s k c pins out e. counted_by takes Truth (λ _. Truth) gate_result takes_few (gate_of k) c pins out e };
 
     ghost lawful = { Prim.search rules };
 
     fn kinds(&self) -> u32 {
-        5
+        // A cast: `try_from` would need a branch for what cannot be.
+        GATES.len() as u32
     }
 
     fn shape_of(&self, kind: u16, count: u8) -> Result<Shape, LibraryFault> {
-        let _gate = gate_at(kind, count)?;
-        Ok(uniform(ValueType::Truth, count, ValueType::Truth))
+        operation::shape_of(gate_of(kind), count)
     }
 
-    fn value(&self, kind: u16, count: u8, row: [i16; 8]) -> Result<i16, LibraryFault> {
-        let gate = gate_at(kind, count)?;
-        if !is_lawful(uniform(ValueType::Truth, count, ValueType::Truth), row) {
-            return Err(LibraryFault::Unlawful);
-        }
-        Ok(output(gate, count, row))
+    fn value(&self, kind: u16, count: u8, row: [i16; PINS]) -> Result<i16, LibraryFault> {
+        operation::value(gate_of(kind), count, row)
     }
 
     fn forces(
@@ -199,15 +144,7 @@ impl BlockLibrary for Gates {
         row: [i16; PINS],
         pins: u8,
     ) -> Result<bool, LibraryFault> {
-        let gate = gate_at(kind, count)?;
-        if !is_asked(
-            uniform(ValueType::Truth, count, ValueType::Truth),
-            row,
-            pins,
-        ) {
-            return Err(LibraryFault::Unlawful);
-        }
-        Ok(forced(gate, count, row, pins))
+        operation::forces(gate_of(kind), count, row, pins)
     }
 }
 
@@ -217,18 +154,6 @@ impl NamedLibrary for Gates {
     ghost known = { Prim.search rules };
 
     fn find(&self, name: &[u8]) -> Option<u16> {
-        if is_name(name, b"and") {
-            Some(Gate::And as u16)
-        } else if is_name(name, b"or") {
-            Some(Gate::Or as u16)
-        } else if is_name(name, b"xor") {
-            Some(Gate::Xor as u16)
-        } else if is_name(name, b"not") {
-            Some(Gate::Not as u16)
-        } else if is_name(name, b"pass") {
-            Some(Gate::Pass as u16)
-        } else {
-            None
-        }
+        kind_named(&NAMES, name)
     }
 }

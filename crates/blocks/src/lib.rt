@@ -5,6 +5,7 @@ pub mod gates;
 pub mod laws;
 pub mod library;
 pub mod named;
+pub mod operation;
 pub mod pair;
 pub mod types;
 pub mod values;

@@ -24,7 +24,7 @@ pub trait BlockLibrary {
         ensures { ShapeAnswer (shape self.now kind count) result };
 
     // The value of a row.
-    fn value(&self, kind: u16, count: u8, row: [i16; 8]) -> Result<i16, LibraryFault>
+    fn value(&self, kind: u16, count: u8, row: [i16; PINS]) -> Result<i16, LibraryFault>
         ensures { ValueAnswer (shape self.now kind count) (function self.now kind count) row result };
 
     // Whether a set of pins forces the output.

@@ -1,4 +1,5 @@
 // Two libraries as one.
+ghost use Rattle.std.specs.Prelude.{◌≡◌, ◌-◌, cond, nat_lt};
 ghost use Rattle.blocks.specs.Pair.{pair_size, pair_shape, pair_function, pair_named};
 ghost use Rattle.blocks.specs.Paired.{paired_size, paired_counted, paired_lawful, paired_known};
 
@@ -11,6 +12,16 @@ use crate::types::{KINDS, LibraryFault, PINS, Shape};
 pub struct Pair<X, Y> {
     pub first: X,
     pub second: Y,
+}
+
+impl<X: BlockLibrary, Y> Pair<X, Y> {
+    // The second's kind that a kind stands for, where it is not one of the first's.
+    fn past_first(&self, kind: u16) -> Option<u16>
+        ensures { result ≡ cond (nat_lt kind (X.BlockLibrary.size self.now.first)) None (Some (kind - X.BlockLibrary.size self.now.first)) }
+    {
+        let past = u32::from(kind).checked_sub(self.first.kinds())?;
+        u16::try_from(past).ok()
+    }
 }
 
 impl<X: BlockLibrary, Y: BlockLibrary> BlockLibrary for Pair<X, Y> {
@@ -31,25 +42,20 @@ impl<X: BlockLibrary, Y: BlockLibrary> BlockLibrary for Pair<X, Y> {
         (λ e. X.BlockLibrary.lawful s.first k c pins out row e good) (λ e. Y.BlockLibrary.lawful s.second _ c pins out row e good) e };
 
     fn kinds(&self) -> u32 {
-        let sum = self.first.kinds() + self.second.kinds();
-        if sum < KINDS { sum } else { KINDS }
+        (self.first.kinds() + self.second.kinds()).min(KINDS)
     }
 
     fn shape_of(&self, kind: u16, count: u8) -> Result<Shape, LibraryFault> {
-        let firsts = self.first.kinds();
-        if (kind as u32) < firsts {
-            self.first.shape_of(kind, count)
-        } else {
-            self.second.shape_of((kind as u32 - firsts) as u16, count)
+        match self.past_first(kind) {
+            None => self.first.shape_of(kind, count),
+            Some(kind) => self.second.shape_of(kind, count),
         }
     }
 
-    fn value(&self, kind: u16, count: u8, row: [i16; 8]) -> Result<i16, LibraryFault> {
-        let firsts = self.first.kinds();
-        if (kind as u32) < firsts {
-            self.first.value(kind, count, row)
-        } else {
-            self.second.value((kind as u32 - firsts) as u16, count, row)
+    fn value(&self, kind: u16, count: u8, row: [i16; PINS]) -> Result<i16, LibraryFault> {
+        match self.past_first(kind) {
+            None => self.first.value(kind, count, row),
+            Some(kind) => self.second.value(kind, count, row),
         }
     }
 
@@ -60,12 +66,9 @@ impl<X: BlockLibrary, Y: BlockLibrary> BlockLibrary for Pair<X, Y> {
         row: [i16; PINS],
         pins: u8,
     ) -> Result<bool, LibraryFault> {
-        let firsts = self.first.kinds();
-        if (kind as u32) < firsts {
-            self.first.forces(kind, count, row, pins)
-        } else {
-            self.second
-                .forces((kind as u32 - firsts) as u16, count, row, pins)
+        match self.past_first(kind) {
+            None => self.first.forces(kind, count, row, pins),
+            Some(kind) => self.second.forces(kind, count, row, pins),
         }
     }
 }
@@ -78,16 +81,9 @@ impl<X: NamedLibrary, Y: NamedLibrary> NamedLibrary for Pair<X, Y> {
         (X.BlockLibrary.sized s.first).most (X.NamedLibrary.known s.first name) (Y.NamedLibrary.known s.second name) e };
 
     fn find(&self, name: &[u8]) -> Option<u16> {
-        let first = self.first.find(name);
-        if first.is_some() {
-            return first;
-        }
-        let second = self.second.find(name)?;
-        let kind = self.first.kinds() + second as u32;
-        if kind < KINDS {
-            Some(kind as u16)
-        } else {
-            None
-        }
+        self.first.find(name).or_else(|| {
+            let kind = self.second.find(name)?;
+            u16::try_from(self.first.kinds() + u32::from(kind)).ok()
+        })
     }
 }

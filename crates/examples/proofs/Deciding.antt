@@ -1,6 +1,7 @@
 -- Deciding the causes of a row from whether each set forces it.
 use Rattle.std.proofs.Common.{◌≡◌, ℕ, zero, suc, ◌/◌, ◌%◌, ◌^◌, ◌<◌, Bool, true, false, not, ◌&&◌, ◌||◌, eqb, ltb, List, [], ◌∷◌, length, ℤ, Decides, sym, refl, subst, ⊎_elim, arith}
 use mathlib.Core.Bool.{beq}
+use Rattle.std.specs.List.{list_all}
 use Rattle.std.proofs.lemmas.Bool.{and_parts, cases_lt, eqb-true, ltb-true, or_cases, false≢true}
 use Rattle.std.proofs.lemmas.Bool.Decides.{Decides-and, Decides-at, Decides-eqb, Decides-like, Decides-below_and}
 use Rattle.blocks.specs.declared.types.ValueType.{ValueType}
@@ -36,19 +37,15 @@ within_decides a b = below_decides _ (λ k. Has a k → Has b k) (λ k. if_decid
 abbrev pub is_cause : ℕ → (ℕ → Bool) → ℕ → Bool
 is_cause c forces set = forces set && all_below (2 ^ c) (λ sub. not (within sub set) || (not (forces sub) || within set sub))
 
-abbrev all_members : (ℕ → Bool) → List ℕ → Bool
-all_members p [] = true
-all_members p (n ∷ ns) = p n && all_members p ns
-
-member_has : (p : ℕ → Bool) (n : ℕ) (ns : List ℕ) → all_members p ns ≡ true → member n ns ≡ true → p n ≡ true
+member_has : (p : ℕ → Bool) (n : ℕ) (ns : List ℕ) → list_all p ns ≡ true → member n ns ≡ true → p n ≡ true
 member_has p n [] a m = absurd (false≢true m)
 member_has p n (x ∷ xs) a m =
-    let b = and_parts (p x) (all_members p xs) a in
+    let b = and_parts (p x) (list_all p xs) a in
     ⊎_elim (λ e. subst (λ k. p k ≡ true) (sym (eqb-true n x e)) b.0) (member_has p n xs b.1) (or_cases (eqb n x) (member n xs) m)
 
 -- these sets, of all sets of c pins, are the causes
 abbrev pub are_causes : ℕ → (ℕ → Bool) → List ℕ → Bool
-are_causes c forces sets = all_below (2 ^ c) (λ set. beq (member set sets) (is_cause c forces set)) && all_members (λ set. ltb set (2 ^ c)) sets
+are_causes c forces sets = all_below (2 ^ c) (λ set. beq (member set sets) (is_cause c forces set)) && list_all (λ set. ltb set (2 ^ c)) sets
 
 module _ (pins : List ValueType) (f : List ℤ → ℤ) (row : List ℤ) (c : ℕ) (counted : length pins ≡ c) (forces : ℕ → Bool) (each : (set : ℕ) → Decides (forces set) (Forces pins f row set)) where
   cause_decides : (set : ℕ) → set < 2 ^ c → Decides (is_cause c forces set) (Cause pins f row set)
@@ -63,7 +60,7 @@ module _ (pins : List ValueType) (f : List ℤ → ℤ) (row : List ℤ) (c : �
 
   pub causes_decided : (sets : List ℕ) → are_causes c forces sets ≡ true → (set : ℕ) → Decides (member set sets) (Cause pins f row set)
   causes_decided sets e set =
-      let b = and_parts (all_below (2 ^ c) (λ set. beq (member set sets) (is_cause c forces set))) (all_members (λ set. ltb set (2 ^ c)) sets) e in
+      let b = and_parts (all_below (2 ^ c) (λ set. beq (member set sets) (is_cause c forces set))) (list_all (λ set. ltb set (2 ^ c)) sets) e in
       ⊎_elim
       (λ h. Decides-at _ _ (beq_same _ _ ((below_decides _ (λ k. beq (member k sets) (is_cause c forces k) ≡ true) (λ k. (λ t. t, λ t. t)) (2 ^ c)).0 b.0 set h)) (cause_decides set h))
       (λ h. (

@@ -13,8 +13,9 @@ use Rattle.blocks.specs.Blocks.{InType, Lawful}
 use Rattle.blocks.specs.Filled.{filled}
 use Rattle.blocks.specs.Gates.{holds, gate_result}
 use Rattle.blocks.proofs.Forcing.{row_from}
+use Rattle.blocks.proofs.Ones.{same_truths}
 use Rattle.blocks.proofs.GatesForced.{ends_force}
-use Rattle.numbers.specs.declared.Operation.{Operation}
+use Rattle.numbers.specs.declared.operation.Operation.{Operation}
 use Rattle.numbers.specs.Numbers.{Rising, same_z, number_result}
 use Rattle.numbers.proofs.Ends.{rising_force}
 use Rattle.examples.specs.Causes.{Cause, member}
@@ -58,7 +59,7 @@ module _ (c : ℕ) (row : List ℤ) (few : c ≤ 8) (sets : List ℕ) where
   unfolding gate_forces
   gate_causes g ne some good e =
       causes_decided (replicate c Truth) (gate_result g c) row c (length-replicate c Truth) (gate_forces g c row)
-      (λ set. ends_force c row set few some good g ne _ _ refl refl) sets e
+      (λ set. ends_force c row set few some good g ne _ (same_truths _ _)) sets e
 
   pub number_causes : (o : Operation) → Rising o → 2 ≤ c → Lawful (replicate c Num) row → are_causes c (number_forces o c row) sets ≡ true
       → (set : ℕ) → Decides (member set sets) (Cause (replicate c Num) (number_result o c) row set)

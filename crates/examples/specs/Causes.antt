@@ -1,5 +1,6 @@
 -- The causes of a block's output.
-use Rattle.std.specs.Prelude.{ℕ, ◌^◌, ◌<◌, Bool, false, ◌||◌, List, [], ◌∷◌, length, ℤ, Decides, ◌==◌}
+use Rattle.std.specs.Prelude.{ℕ, ◌^◌, ◌<◌, Bool, List, length, ℤ, Decides, ◌==◌}
+use Rattle.std.specs.List.{list_any}
 use Rattle.blocks.specs.declared.types.ValueType.{ValueType}
 use Rattle.blocks.specs.Blocks.{ShapeOf, unknown_kind, no_such_count, shaped, Lawful, Forces}
 use Rattle.blocks.specs.Laws.{Within}
@@ -12,8 +13,7 @@ pub record Cause (pins : List ValueType) (f : List ℤ → ℤ) (row : List ℤ)
 
 -- a number stands in a list
 abbrev pub member : ℕ → List ℕ → Bool
-member n [] = false
-member n (m ∷ ms) = n == m || member n ms
+member n numbers = list_any (λ m. n == m) numbers
 
 -- the causes of a lawful row are exactly these sets, each by its pin sum
 abbrev pub CausesAre : ShapeOf → (List ℤ → ℤ) → List ℤ → List ℕ → Type 0

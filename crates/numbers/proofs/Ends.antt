@@ -1,31 +1,47 @@
 -- Which sets of pins force an operation.
-use Rattle.std.proofs.Common.{◌≡◌, ℕ, zero, suc, ◌<◌, ◌≤◌, Bool, cond, not, ◌⊎◌, List, ◌∷◌, length, get_or, replicate, ℤ, pos, negsuc, ◌≤ℤ◌, Decides, sym, refl, ap, ◌∙◌, subst, inl, inr, ⊎_elim, arith, get_or-set_other, get_or-set_same}
+use Rattle.std.proofs.Common.{◌≡◌, ℕ, zero, suc, ◌<◌, ◌≤◌, Bool, cond, not, ◌⊎◌, List, ◌∷◌, length, get_or, replicate, ℤ, pos, negsuc, ◌+ℤ◌, ◌≤ℤ◌, Decides, sym, refl, ap, ◌∙◌, subst, inl, inr, ⊎_elim, arith, get_or-set_other, get_or-set_same}
 use lib.ListN as ln
 use lib.Signed.{le_z, ≤ℤ_refl}
 use Rattle.std.proofs.lemmas.List.{get_or-replicate}
+use Rattle.std.specs.List.{fold}
+use Rattle.std.specs.Int.{int_max, int_min}
 use Rattle.std.proofs.lemmas.Int.{ints}
 use Rattle.std.proofs.lemmas.Bool.{cases_Bool, cases_eq}
 use Rattle.blocks.specs.declared.types.ValueType.TheVariants.{Num}
-use Rattle.blocks.specs.Blocks.{InType, Lawful, Has, Agree, Forces, of_bool}
+use Rattle.blocks.specs.Blocks.{InType, Lawful, Has, Agree, Forces, of_bool, places}
 use Rattle.blocks.specs.Filled.{filled, FirstFree}
 use Rattle.blocks.proofs.Forcing.{value_at_pin, changed, squeezed, fill_stands}
-use Rattle.numbers.specs.declared.Operation.{Operation}
-use Rattle.numbers.specs.declared.Operation.TheVariants.{Sum, Max, Min, Mean, Ge, Eq}
-use Rattle.numbers.specs.Numbers.{total, stopped, Nums, Rising, same_z, number_result}
-use Rattle.numbers.proofs.Folds.{joined_rises, sum_rises, max_rises, min_rises, total_joined, greatest_joined, least_joined}
+use Rattle.numbers.specs.declared.operation.Operation.{Operation}
+use Rattle.numbers.specs.declared.operation.Operation.TheVariants.{Sum, Max, Min, Mean, Ge, Eq}
+use Rattle.numbers.specs.Numbers.{total, stopped, Rising, same_z, number_result}
+use Rattle.numbers.specs.Folds.{folds_keep}
 use Rattle.numbers.specs.Means.{mean_rises}
 
 stopped_rises : (y z : ℤ) → y ≤ℤ z → stopped y ≤ℤ stopped z
 stopped_rises y z h = grind (arith, ints)
 
+-- which operations rise
+pub rising_is : (o : Operation) → (o ≡ Sum) ⊎ ((o ≡ Max) ⊎ ((o ≡ Min) ⊎ (o ≡ Mean))) → Rising o
+rising_is Sum e = tt
+rising_is Max e = tt
+rising_is Min e = tt
+rising_is Mean e = tt
+rising_is Ge e = grind arith
+rising_is Eq e = grind arith
+
+-- greater numbers give a greater result
+folds_rise : (join : ℤ → ℤ → ℤ) → ((a b x y : ℤ) → a ≤ℤ b → x ≤ℤ y → join a x ≤ℤ join b y) → (c : ℕ) (x y : List ℤ) (s t : ℤ) → s ≤ℤ t
+    → ((k : ℕ) → k < c → get_or x k (pos 0) ≤ℤ get_or y k (pos 0)) → fold join s (places c x) ≤ℤ fold join t (places c y)
+folds_rise join rises c x y s t start each = folds_keep join (λ _ u v. u ≤ℤ v) x y c s t (λ k u v h p. rises u v _ _ p (each k h)) start
+
 totals_rise : (c : ℕ) (x y : List ℤ) → ((k : ℕ) → k < c → get_or x k (pos 0) ≤ℤ get_or y k (pos 0)) → total c x ≤ℤ total c y
-totals_rise c x y h = rw (total_joined c x, total_joined c y) (joined_rises _ sum_rises (pos 0) (pos 0) (≤ℤ_refl (pos 0)) x y c h)
+totals_rise c x y h = folds_rise ◌+ℤ◌ (λ a b x y p q. omega (arith, ints)) c x y (pos 0) (pos 0) (≤ℤ_refl (pos 0)) h
 
 -- greater pins give no lesser output
 rises : (o : Operation) → Rising o → (c : ℕ) → 0 < c → (x y : List ℤ) → ((k : ℕ) → k < c → get_or x k (pos 0) ≤ℤ get_or y k (pos 0)) → number_result o c x ≤ℤ number_result o c y
 rises Sum _ c some x y h = stopped_rises _ _ (totals_rise c x y h)
-rises Max _ c some x y h = rw (greatest_joined c x, greatest_joined c y) (joined_rises _ max_rises _ _ (h 0 some) x y c h)
-rises Min _ c some x y h = rw (least_joined c x, least_joined c y) (joined_rises _ min_rises _ _ (h 0 some) x y c h)
+rises Max _ c some x y h = folds_rise int_max (λ a b x y p q. grind (arith, ints)) c x y _ _ (h 0 some) h
+rises Min _ c some x y h = folds_rise int_min (λ a b x y p q. grind (arith, ints)) c x y _ _ (h 0 some) h
 rises Mean _ c some x y h = mean_rises _ _ c some (totals_rise c x y h)
 rises Ge n c some x y h = absurd n
 rises Eq n c some x y h = absurd n
@@ -52,7 +68,7 @@ low_num = (omega (arith, ints), omega (arith, ints))
 high_num : InType Num (pos 30000)
 high_num = (omega (arith, ints), omega (arith, ints))
 
-ends_nums : {a b : ℤ} → InType Num a → InType Num b → Nums (a ∷ replicate 7 b)
+ends_nums : {a b : ℤ} → InType Num a → InType Num b → (k : ℕ) → k < 8 → InType Num (get_or (a ∷ replicate 7 b) k (pos 0))
 ends_nums {a} {b} p q zero h = p
 ends_nums {a} {b} p q (suc k) h = subst (InType Num) (sym (get_or-replicate 7 k b (pos 0) (omega arith))) q
 

@@ -2,7 +2,7 @@
 use Rattle.std.specs.Prelude.{◌≡◌, ℕ, ◌<◌, ◌≤◌, List, replicate, ℤ, pos, ◌≤ℤ◌, slice_index_or}
 use Rattle.blocks.specs.declared.types.ValueType.TheVariants.{Num}
 use Rattle.blocks.specs.Blocks.{Lawful, Has, Forces}
-use Rattle.numbers.specs.declared.Operation.TheVariants.{Max, Min, Mean}
+use Rattle.numbers.specs.declared.operation.Operation.TheVariants.{Max, Min, Mean}
 use Rattle.numbers.specs.Numbers.{number_result}
 
 -- a value of one of the first c places, to which each of them stands so

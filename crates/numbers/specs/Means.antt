@@ -1,10 +1,10 @@
 -- The mean: all that depends on how it is rounded.
 use Rattle.std.specs.Prelude.{◌≡◌, ℕ, suc, ◌+◌, ◌*◌, ◌/◌, ◌<◌, ◌≤◌, ℤ, pos, negsuc, ◌+ℤ◌, ◌≤ℤ◌, FitsSigned, ◌≢◌, int_div}
-use Rattle.std.proofs.Common.{ap, ◌∙◌, arith, to_z, of_z}
+use Rattle.std.proofs.Common.{sym, ap, subst, ◌∙◌, arith, to_z, of_z}
 use Rattle.std.proofs.Math.Nat.{div-le_of_le-mul}
-use Rattle.std.specs.Int.{w32}
+use Rattle.std.specs.Int.{w16, w32}
 use Rattle.std.proofs.lemmas.Nat.{le-div, div-add-mod', mod_below}
-use Rattle.std.proofs.lemmas.Int.{ints, to_z-of_z, to_z_pos}
+use Rattle.std.proofs.lemmas.Int.{ints, to_z-of_z}
 use Rattle.blocks.specs.declared.types.ValueType.TheVariants.{Num}
 use Rattle.blocks.specs.Blocks.{InType}
 use Rattle.numbers.specs.Numbers.{mean_of, Spread}
@@ -24,15 +24,26 @@ pub mean_num : (z : ℤ) (c : ℕ) → Spread z c → InType Num (mean_of z c)
 unfolding mean_of
 mean_num z c s = quotient_num z c s
 
--- the mean as the machine makes it
-pub mean_made : (z : ℤ) (c : ℕ) → Spread z c → FitsSigned w32 z → to_z w32 (of_z w32 (int_div (to_z w32 (of_z w32 z)) (to_z w32 c))) ≡ mean_of z c
-unfolding mean_of
-mean_made z c s f =
-    let n = quotient_num z c s in
-    let g : FitsSigned w32 (int_div z (pos c)) = omega (arith, ints) in
-    ap (λ x. to_z w32 (of_z w32 (int_div x (to_z w32 c)))) (to_z-of_z w32 z f)
-    ∙ ap (λ x. to_z w32 (of_z w32 (int_div z x))) (to_z_pos w32 c (omega (arith, s.few)))
-    ∙ to_z-of_z w32 (int_div z (pos c)) g
+-- the mean as the machine makes it: it fits, and is the mean
+module _ (z d : ℤ) (c : ℕ) (s : Spread z c) (f : FitsSigned w32 z) (e : d ≡ pos c) where
+  made : to_z w32 (of_z w32 (int_div (to_z w32 (of_z w32 z)) (to_z w32 (of_z w32 d)))) ≡ int_div z (pos c)
+  made =
+      let n = quotient_num z c s in
+      let g : FitsSigned w32 (int_div z (pos c)) = omega (arith, ints) in
+      let h : FitsSigned w32 (pos c) = omega (arith, ints, s.few) in
+      ap (λ x. to_z w32 (of_z w32 (int_div x (to_z w32 (of_z w32 d))))) (to_z-of_z w32 z f)
+      ∙ ap (λ x. to_z w32 (of_z w32 (int_div z x))) (ap (λ d. to_z w32 (of_z w32 d)) e ∙ to_z-of_z w32 (pos c) h)
+      ∙ to_z-of_z w32 (int_div z (pos c)) g
+
+  fits : FitsSigned w16 (int_div z (pos c))
+  fits = let n = quotient_num z c s in omega (arith, ints)
+
+  pub mean_fits : FitsSigned w16 (to_z w32 (of_z w32 (int_div (to_z w32 (of_z w32 z)) (to_z w32 (of_z w32 d)))))
+  mean_fits = subst (FitsSigned w16) (sym made) fits
+
+  pub mean_made : to_z w16 (of_z w16 (to_z w32 (of_z w32 (int_div (to_z w32 (of_z w32 z)) (to_z w32 (of_z w32 d)))))) ≡ mean_of z c
+  unfolding mean_of
+  mean_made = ap (λ z. to_z w16 (of_z w16 z)) made ∙ to_z-of_z w16 (int_div z (pos c)) fits
 
 quotient_rises : (a b c : ℕ) → 0 < c → a ≤ b → a / c ≤ b / c
 quotient_rises a b c s h = le-div (a / c) b c s (omega (arith, div-add-mod' a c))

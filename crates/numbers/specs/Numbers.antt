@@ -1,17 +1,21 @@
 -- The operations on numbers: their names, the pin counts that each takes, and their outputs.
-use Rattle.std.specs.Prelude.{ℕ, zero, suc, ◌*◌, ◌<◌, Bool, cond, ◌&&◌, List, [], ◌∷◌, ℤ, pos, negsuc, ◌+ℤ◌, neg_ℤ, ◌≤ℤ◌, Some, None, codes, Option, ◌==◌, int_div, int_le, nat_le, slice_index_or}
+use Rattle.std.specs.Prelude.{ℕ, ◌*◌, ◌<◌, Bool, ◌&&◌, List, [], ◌∷◌, ℤ, pos, negsuc, ◌+ℤ◌, neg_ℤ, ◌≤ℤ◌, codes, Option, ◌==◌, int_div, int_le, nat_le, fold, position, slice_get, slice_index_or}
+use Rattle.std.specs.Str.{bytes_eq}
 use Rattle.std.specs.Int.{int_max, int_min}
 use Rattle.blocks.specs.declared.types.ValueType.{ValueType}
 use Rattle.blocks.specs.declared.types.ValueType.TheVariants.{Truth, Num}
-use Rattle.blocks.specs.Blocks.{ShapeOf, InType, of_bool}
-use Rattle.blocks.specs.Names.{place_from}
+use Rattle.blocks.specs.Blocks.{ShapeOf, of_bool, places}
 use Rattle.blocks.specs.Uniform.{shape_at, function_at}
-use Rattle.numbers.specs.declared.Operation.{Operation}
-use Rattle.numbers.specs.declared.Operation.TheVariants.{Sum, Max, Min, Mean, Ge, Eq}
+use Rattle.numbers.specs.declared.operation.Operation.{Operation}
+use Rattle.numbers.specs.declared.operation.Operation.TheVariants.{Sum, Max, Min, Mean, Ge, Eq}
+
+-- the operations, in the order of their kind numbers
+abbrev pub operations : List Operation
+operations = Sum ∷ Max ∷ Min ∷ Mean ∷ Ge ∷ Eq ∷ []
 
 -- the kinds, by number
 abbrev pub operation_of : ℕ → Option Operation
-operation_of k = cond (k == 0) (Some Sum) (cond (k == 1) (Some Max) (cond (k == 2) (Some Min) (cond (k == 3) (Some Mean) (cond (k == 4) (Some Ge) (cond (k == 5) (Some Eq) None)))))
+operation_of k = slice_get operations k
 
 -- their names, in the order of their numbers
 abbrev pub number_names : List (List ℕ)
@@ -19,7 +23,7 @@ number_names = codes "sum" ∷ codes "max" ∷ codes "min" ∷ codes "mean" ∷ 
 
 -- the kind of a name
 abbrev pub number_named : List ℕ → Option ℕ
-number_named name = place_from 0 number_names name
+number_named name = position (bytes_eq name) number_names
 
 -- the pin counts of an operation
 abbrev pub takes : Operation → ℕ → Bool
@@ -50,8 +54,7 @@ Rising Eq = ⊥
 
 -- the sum of the first n places
 abbrev pub total : ℕ → List ℤ → ℤ
-total zero row = pos 0
-total (suc n) row = total n row +ℤ slice_index_or row n (pos 0)
+total n row = fold ◌+ℤ◌ (pos 0) (places n row)
 
 -- a sum, stopped at the ends of num
 abbrev pub stopped : ℤ → ℤ
@@ -59,13 +62,11 @@ stopped z = int_max (negsuc 29999) (int_min z (pos 30000))
 
 -- the greatest of the first place and the first n places
 abbrev pub greatest : ℕ → List ℤ → ℤ
-greatest zero row = slice_index_or row 0 (pos 0)
-greatest (suc n) row = int_max (greatest n row) (slice_index_or row n (pos 0))
+greatest n row = fold int_max (slice_index_or row 0 (pos 0)) (places n row)
 
 -- the least of the first place and the first n places
 abbrev pub least : ℕ → List ℤ → ℤ
-least zero row = slice_index_or row 0 (pos 0)
-least (suc n) row = int_min (least n row) (slice_index_or row n (pos 0))
+least n row = fold int_min (slice_index_or row 0 (pos 0)) (places n row)
 
 -- the mean of c numbers with this sum, rounded toward zero
 unfoldable pub mean_of : ℤ → ℕ → ℤ
@@ -77,10 +78,6 @@ pub record Spread (z : ℤ) (c : ℕ) : Type 0 where
   pub few : c < 9
   pub low : neg_ℤ (pos (30000 * c)) ≤ℤ z
   pub high : z ≤ℤ pos (30000 * c)
-
--- a num at each of the eight places
-abbrev pub Nums : List ℤ → Type 0
-Nums row = (k : ℕ) → k < 8 → InType Num (slice_index_or row k (pos 0))
 
 -- two numbers are one
 abbrev pub same_z : ℤ → ℤ → Bool

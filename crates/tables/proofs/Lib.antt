@@ -1,2 +1,2 @@
-pub mod Padding
 pub mod Numbered
+pub mod Ranges

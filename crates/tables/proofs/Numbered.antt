@@ -1,5 +1,5 @@
 -- Rows and their numbers.
-use Rattle.std.proofs.Common.{◌≡◌, ℕ, zero, suc, ◌+◌, ◌-◌, ◌*◌, ◌/◌, ◌%◌, ◌^◌, ◌<◌, ◌≤◌, Bool, true, false, cond, ltb, List, map, length, get_or, replicate, ℤ, pos, sym, refl, ap, ◌∙◌, subst, inl, inr, ⊎_elim, mod-eq_of_lt, add-one, arith}
+use Rattle.std.proofs.Common.{◌≡◌, ℕ, zero, suc, ◌+◌, ◌-◌, ◌*◌, ◌/◌, ◌%◌, ◌^◌, ◌<◌, ◌≤◌, Bool, true, false, cond, ltb, List, map, length, get_or, replicate, ℤ, pos, sym, ap, ◌∙◌, subst, inl, inr, ⊎_elim, mod-eq_of_lt, arith}
 use native.Mathlib.Nat.{add-mul-div_left, two-pow-succ}
 use Rattle.std.specs.List.{range_with_len}
 use Rattle.std.proofs.lemmas.Nat.{pow_pos, pow-add, shr_high, mod-pow-add}
@@ -14,17 +14,13 @@ use Rattle.blocks.proofs.Ones.{of_bool_same}
 use Rattle.tables.specs.declared.table.Table.{Table}
 use Rattle.tables.specs.Tables.{number_of_row, table_result, Alike}
 
--- one place more
-pub number_more : (n : ℕ) (row : List ℤ) → number_of_row (n + 1) row ≡ number_of_row n row + cond (is_one (get_or row n (pos 0))) (2 ^ n) 0
-number_more n row = rw add-one refl
-
 -- ---- the bits of a number
 
 step_below : (b : Bool) (m p : ℕ) → m < p → m + cond b p 0 < p + p
 step_below true m p h = omega arith
 step_below false m p h = omega arith
 
-pub number_below : (n : ℕ) (row : List ℤ) → number_of_row n row < 2 ^ n
+number_below : (n : ℕ) (row : List ℤ) → number_of_row n row < 2 ^ n
 number_below zero row = omega arith
 number_below (suc n) row =
     subst (λ p. number_of_row (suc n) row < p) (sym (two-pow-succ n)) (step_below (is_one (get_or row n (pos 0))) (number_of_row n row) (2 ^ n) (number_below n row))
@@ -45,7 +41,7 @@ bit_new true m n h = let e : m + 2 ^ n ≡ 1 * 2 ^ n + m = omega arith in ap (λ
 bit_new false m n h = let e : m + 0 ≡ 0 * 2 ^ n + m = omega arith in ap (λ x. x / 2 ^ n % 2) e ∙ ap (λ x. x % 2) (shr_high 0 n m h)
 
 -- the bit at a place says whether it is one
-pub bit_of : (n : ℕ) (row : List ℤ) (k : ℕ) → k < n → number_of_row n row / 2 ^ k % 2 ≡ cond (is_one (get_or row k (pos 0))) 1 0
+bit_of : (n : ℕ) (row : List ℤ) (k : ℕ) → k < n → number_of_row n row / 2 ^ k % 2 ≡ cond (is_one (get_or row k (pos 0))) 1 0
 bit_of zero row k h = absurd (omega arith)
 bit_of (suc n) row k h = ⊎_elim
     (λ e. subst (λ k. number_of_row (suc n) row / 2 ^ k % 2 ≡ cond (is_one (get_or row k (pos 0))) 1 0) (sym e) (bit_new (is_one (get_or row n (pos 0))) (number_of_row n row) n (number_below n row)))
@@ -57,7 +53,7 @@ weight : (b : Bool) (m : ℕ) → cond b m 0 ≡ cond b 1 0 * m
 weight true m = omega arith
 weight false m = omega arith
 
-pub number_of : (n : ℕ) (row : List ℤ) (i : ℕ) → ((k : ℕ) → k < n → cond (is_one (get_or row k (pos 0))) 1 0 ≡ i / 2 ^ k % 2) → number_of_row n row ≡ i % 2 ^ n
+number_of : (n : ℕ) (row : List ℤ) (i : ℕ) → ((k : ℕ) → k < n → cond (is_one (get_or row k (pos 0))) 1 0 ≡ i / 2 ^ k % 2) → number_of_row n row ≡ i % 2 ^ n
 number_of zero row i bits = omega arith
 number_of (suc n) row i bits =
     let r = number_of n row i (λ k h. bits k (omega arith)) in

@@ -1,23 +1,31 @@
 -- The tables of a library have few pins.
-use Rattle.std.specs.Prelude.{◌≡◌, ℕ, ◌≤◌, true, get_or, Some, None, nat_le, nat_lt, slice_index_or}
-use Rattle.std.proofs.Common.{sym, subst, ◌∙◌, ⊎_elim, arith}
-use Rattle.std.proofs.lemmas.Bool.{cases_lt, cond-true, cond-false, lt-ltb, le-ltb, and_parts, leb-true, eqb-true}
+use Rattle.std.specs.Prelude.{◌≡◌, ℕ, ◌≤◌, true, Some, List, length, nat_lt, slice_index_or}
+use Rattle.std.proofs.Common.{ap, ◌∙◌, subst, arith}
+use Rattle.std.proofs.lemmas.List.{length-replicate}
+use Rattle.std.proofs.lemmas.Option.{cond_some}
+use Rattle.std.proofs.lemmas.Bool.{ltb-true}
+use Rattle.std.proofs.lemmas.Bool.Decides.{nat_tests}
+use Rattle.blocks.specs.declared.types.ValueType.{ValueType}
+use Rattle.blocks.specs.declared.types.ValueType.TheVariants.{Truth}
+use Rattle.blocks.specs.Blocks.{shaped}
+use Rattle.blocks.specs.Uniformly.{shaped_is}
 use Rattle.tables.specs.declared.table.Table.{Table}
 use Rattle.tables.specs.declared.held.Tables.{Tables}
 use Rattle.tables.specs.Rules.{absent, Pinned}
-use Rattle.tables.specs.Tables.{table_of, takes}
+use Rattle.tables.specs.Tables.{table_of, takes, table_result, table_shape}
 
--- at most eight
+-- a table with one to eight pins takes at most eight
+pub pinned_few : (t : Table) → Pinned t → (c : ℕ) → takes t c ≡ true → c ≤ 8
+pinned_few t pinned c e = grind (arith, nat_tests)
+
+-- and so do the tables of a library
 pub few_pins : (s : Tables) (k c : ℕ) (t : Table) → table_of s k ≡ Some t → takes t c ≡ true → c ≤ 8
-few_pins s k c t e h = ⊎_elim
-    (λ l.
-    let x : Table = get_or s.items k absent in
-    let f : Some x ≡ Some t = sym (cond-true (nat_lt k s.count) (Some x) None (lt-ltb k s.count l)) ∙ e in
-    let same : x ≡ t = cc in
-    let p : Pinned t = subst Pinned same (s.pinned k l) in
-    omega (arith, eqb-true c t.pins h, leb-true t.pins 8 (and_parts (nat_le 1 t.pins) (nat_le t.pins 8) p).1))
-    (λ l.
-    let f = sym (cond-false (nat_lt k s.count) (Some (slice_index_or s.items k absent)) None (le-ltb k s.count l)) ∙ e in
-    let z : ◌≡◌ {A = ℕ} 0 1 = cc in
-    absurd (omega arith))
-    (cases_lt k s.count)
+few_pins s k c t e h =
+    let found = cond_some (nat_lt k s.count) (slice_index_or s.items k absent) t e in
+    pinned_few t (subst Pinned found.1 (s.pinned k (ltb-true k s.count found.0))) c h
+
+-- a block has as many pins as its count says, at most eight
+pub tables_counted : (s : Tables) (k c : ℕ) (pins : List ValueType) (out : ValueType) → table_shape s k c ≡ shaped pins out → (length pins ≡ c) × (c ≤ 8)
+tables_counted s k c pins out e =
+    let found = shaped_is takes Truth (λ _. Truth) table_result (table_of s k) c pins out e in
+    (ap length found.3 ∙ length-replicate c Truth, few_pins s k c found.0 found.1 found.2)

@@ -7,7 +7,7 @@ abbrev pub absent : Table
 absent = record { pins = 0; outputs = [] }
 
 -- a table without pins and ones: what stands beyond the tables of a library
-unfoldable pub blank : Table
+abbrev pub blank : Table
 blank = record { pins = 0; outputs = replicate 256 false }
 
 -- one to eight pins

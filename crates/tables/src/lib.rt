@@ -3,4 +3,5 @@
 
 pub mod held;
 pub mod library;
+pub mod operation;
 pub mod table;

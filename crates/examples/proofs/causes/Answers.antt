@@ -3,7 +3,7 @@ use Rattle.std.proofs.lemmas.Int.{ints}
 use Rattle.blocks.specs.declared.types.ValueType.TheVariants.{Truth, Num}
 use Rattle.blocks.specs.declared.gates.Gate.TheVariants.{And, Or}
 use Rattle.blocks.specs.Filled.{filled}
-use Rattle.numbers.specs.declared.Operation.TheVariants.{Sum, Max}
+use Rattle.numbers.specs.declared.operation.Operation.TheVariants.{Sum, Max}
 use Rattle.examples.specs.Worked.{row_of}
 use Rattle.examples.proofs.Listing.{gate_forces, number_forces, row_lawful, gate_causes, number_causes}
 use Rattle.examples.proofs.causes.Goals as goal

@@ -1,4 +1,4 @@
-use Rattle.std.proofs.Common.{ℕ, zero, suc, ◌<◌, refl, arith}
+use Rattle.std.proofs.Common.{ℕ, zero, suc, ◌<◌, refl, arith, rules}
 use Rattle.blocks.specs.Blocks.{Has}
 use Rattle.blocks.specs.Filled.{filled}
 use Rattle.tables.specs.Tables.{Alike}
@@ -16,10 +16,4 @@ before (suc k) h = absurd (omega arith)
 
 pub returns : goal.returns
 unfolding filled
-returns c = record {
-  filled_row = refl;
-  second_free = record { below = omega arith; free = λ has. omega arith; first = before };
-  shape = refl;
-  table = refl;
-  alike = agree;
-}
+returns c = search (rules, agree, before)
