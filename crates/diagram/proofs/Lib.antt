@@ -1,2 +1,1 @@
-mod Typings
-mod Shapings
+pub mod Shapings

@@ -1,11 +1,12 @@
 -- The rules of a diagram.
+use Rattle.looping.specs.Limits.{signal_limit}
 use Rattle.std.specs.Prelude.{◌≡◌, ℕ, ◌+◌, ◌<◌, ◌≤◌, Bool, true, false, ◌&&◌, List, length, nat_le, nat_lt, slice_index_or}
 use Rattle.blocks.specs.declared.types.ValueType.TheVariants.{Truth}
 use Rattle.diagram.specs.declared.signals.Signal.{Signal}
 use Rattle.diagram.specs.declared.signals.Signal.TheVariants.{Source, Constant, Delay, Block}
 use Rattle.diagram.specs.declared.signals.Pin.{Pin}
 use Rattle.diagram.specs.declared.fault.CaseFault.{CaseFault}
-use Rattle.diagram.specs.declared.fault.CaseFault.TheVariants.{Size, Rule, Types, Tree, Atom, Steps, Length, Value, Made, Loop}
+use Rattle.diagram.specs.declared.fault.CaseFault.TheVariants.{Size, Rule}
 
 -- signal s of a list, and pin k
 abbrev pub signal_at : List Signal → ℕ → Signal
@@ -52,7 +53,7 @@ pub record SignalRules (n : ℕ) (pins : List Pin) (s : ℕ) (x : Signal) : Type
 -- there are 1 to 1,024 signals, and at most 4,096 pins
 pub record InRange (signals : List Signal) (pins : List Pin) : Type 0 where
   pub some : 1 ≤ length signals
-  pub few : length signals ≤ 1024
+  pub few : length signals ≤ signal_limit
   pub brief : length pins ≤ 4096
 
 -- signal s keeps the rules
@@ -74,11 +75,4 @@ pub record FirstBroken (signals : List Signal) (pins : List Pin) (s : ℕ) : Typ
 abbrev pub RulesFault : List Signal → List Pin → CaseFault → Type 0
 RulesFault signals pins Size = InRange signals pins → ⊥
 RulesFault signals pins (Rule s) = InRange signals pins × FirstBroken signals pins s
-RulesFault signals pins (Types f) = ⊥
-RulesFault signals pins Tree = ⊥
-RulesFault signals pins (Atom f) = ⊥
-RulesFault signals pins Steps = ⊥
-RulesFault signals pins Length = ⊥
-RulesFault signals pins (Value e) = ⊥
-RulesFault signals pins (Made e) = ⊥
-RulesFault signals pins (Loop s) = ⊥
+RulesFault signals pins _ = ⊥

@@ -1,8 +1,7 @@
-// Diagrams and their runs: the rules of a diagram, the types of its signals, and the checks of a table.
+// Diagrams: their rules, and the types of their signals.
 #![tactic(auto)]
 
 pub mod fault;
 pub mod rules;
-pub mod run;
 pub mod signals;
 pub mod types;

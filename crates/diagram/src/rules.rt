@@ -1,10 +1,12 @@
 // Taking a diagram in: its rules are checked once, and hold for good.
-ghost use Rattle.std.specs.Prelude.{◌≡◌, ℕ, ◌+◌, ◌<◌, ◌≤◌, true, false, length, Decides, MatchResult};
-ghost use Rattle.diagram.specs.Rules.{count_of, first_of, sized, named, signal_at, pin_at, SignalRules, Rules, InRange, RulesFault};
+ghost use Rattle.std.specs.Prelude.{◌≡◌, ℕ, ◌+◌, ◌<◌, ◌≤◌, true, length, Decides, MatchOption, MatchResult, slice_range};
+ghost use Rattle.looping.specs.Limits.{signal_limit};
+ghost use Rattle.diagram.specs.Rules.{count_of, first_of, sized, named, signal_at, pin_at, SignalRules, Keeps, Rules, FirstBroken, RulesFault};
 
 use crate::fault::CaseFault;
-use crate::signals::{PIN_LIST, Pin, SIGNALS, Signal};
+use crate::signals::{PIN_LIST, Pin, Signal};
 use blocks::types::PINS;
+use looping::limits::SIGNALS;
 
 // A diagram that keeps the rules.
 #[derive(Clone, Copy)]
@@ -12,7 +14,7 @@ pub struct Diagram<'s, 'p> {
     pub signals: &'s [Signal],
     pub pins: &'p [Pin],
     ghost some: { 1 ≤ length signals.now },
-    ghost few: { length signals.now ≤ 1024 },
+    ghost few: { length signals.now ≤ signal_limit },
     ghost brief: { length pins.now ≤ 4096 },
     ghost sized: { (s : ℕ) → s < length signals.now → sized (signal_at signals.now s) ≡ true },
     ghost stretch: { (s : ℕ) → s < length signals.now → first_of (signal_at signals.now s) + count_of (signal_at signals.now s) ≤ length pins.now },
@@ -20,17 +22,30 @@ pub struct Diagram<'s, 'p> {
     ghost named: { (s : ℕ) → s < length signals.now → named (length signals.now) s (signal_at signals.now s) ≡ true },
 }
 
-// Whether the pins of a stretch all name signals below s.
-fn pins_lower(pins: &[Pin], first: usize, count: usize, s: usize) -> bool
-    requires { first + count ≤ length pins.now }
-    ensures { Decides result ((k : ℕ) → k < count → (pin_at pins.now (first + k)).signal < s) }
-{
-    for k in 0..count {
-        if pins[first + k].signal as usize >= s {
-            return false;
-        }
+impl<'s, 'p> Diagram<'s, 'p> {
+    // The diagram of signals and pins, where they keep the rules; else why they do not.
+    pub fn new(signals: &'s [Signal], pins: &'p [Pin]) -> Result<Diagram<'s, 'p>, CaseFault>
+        ensures { MatchResult result (λ d. Rules signals.now pins.now × (d.signals.now ≡ signals.now) × (d.pins.now ≡ pins.now)) (λ e. RulesFault signals.now pins.now e) }
+    {
+        check_rules(signals, pins)?;
+        Ok(Diagram { signals, pins })
     }
-    true
+
+    // The pins of a stretch of the list.
+    pub fn stretch_of(&self, first: u16, count: u8) -> &'p [Pin]
+        requires { first + count ≤ length self.now.pins.now }
+        ensures { result.now ≡ slice_range self.now.pins.now first (first + count) }
+    {
+        let first = usize::from(first);
+        &self.pins[first..first + usize::from(count)]
+    }
+}
+
+// Whether pins all name signals below s.
+fn all_below(pins: &[Pin], s: usize) -> bool
+    ensures { Decides result ((k : ℕ) → k < length pins.now → (pin_at pins.now k).signal < s) }
+{
+    pins.iter().all(|pin| usize::from(pin.signal) < s)
 }
 
 // Whether signal s, one of n, keeps the rules.
@@ -39,19 +54,30 @@ fn keeps_rules(n: usize, pins: &[Pin], s: usize, signal: Signal) -> bool
 {
     match signal {
         Signal::Source(_) | Signal::Constant(_, _) => true,
-        Signal::Delay { default, input } => (default as usize) < s && (input as usize) < n,
+        Signal::Delay { default, input } => usize::from(default) < s && usize::from(input) < n,
         Signal::Block {
             kind: _,
             first,
             count,
         } => {
-            let (first, count) = (first as usize, count as usize);
+            let (first, count) = (usize::from(first), usize::from(count));
             if count < 1 || count > PINS || first + count > pins.len() {
                 return false;
             }
-            pins_lower(pins, first, count, s)
+            all_below(&pins[first..first + count], s)
         }
     }
+}
+
+// The lowest signal that breaks a rule.
+fn first_broken(signals: &[Signal], pins: &[Pin]) -> Option<usize>
+    ensures { MatchOption result ((s : ℕ) → s < length signals.now → Keeps signals.now pins.now s) (λ s. FirstBroken signals.now pins.now s) }
+{
+    let n = signals.len();
+    signals
+        .iter()
+        .enumerate()
+        .position(|(s, signal)| !keeps_rules(n, pins, s, *signal))
 }
 
 // Whether signals and pins keep the rules: `Size` where there are too few or too many, else `Rule` at the lowest signal
@@ -59,15 +85,13 @@ fn keeps_rules(n: usize, pins: &[Pin], s: usize, signal: Signal) -> bool
 pub fn check_rules(signals: &[Signal], pins: &[Pin]) -> Result<(), CaseFault>
     ensures { MatchResult result (λ _. Rules signals.now pins.now) (λ e. RulesFault signals.now pins.now e) }
 {
-    if signals.len() < 1 || signals.len() > SIGNALS || pins.len() > PIN_LIST {
+    if signals.is_empty() || signals.len() > SIGNALS || pins.len() > PIN_LIST {
         return Err(CaseFault::Size);
     }
-    for s in 0..signals.len() {
-        if !keeps_rules(signals.len(), pins, s, signals[s]) {
-            return Err(CaseFault::Rule { signal: s });
-        }
+    match first_broken(signals, pins) {
+        None => Ok(()),
+        Some(signal) => Err(CaseFault::Rule { signal }),
     }
-    Ok(())
 }
 
 // The diagram of signals and pins that keep the rules.

@@ -1,14 +1,8 @@
 // Signals and pins.
 use blocks::types::ValueType;
 
-// The most signals of a diagram.
-pub const SIGNALS: usize = 1024;
-
 // The most pins of a diagram.
 pub const PIN_LIST: usize = 4096;
-
-// The most steps of a run.
-pub const STEPS: usize = 64;
 
 // A signal: a source with a type, a constant with a type and a value, a delay that names a default and an input, or a
 // block with a kind and a stretch of the pin list.

@@ -1,9 +1,8 @@
 // The types of signals: each has one, and pins, delays and constants fit.
-ghost use Rattle.std.specs.Prelude.{◌≡◌, ℕ, ◌+◌, ◌<◌, ◌≤◌, true, false, length, Some, Decides, MatchResult, slice_index_or};
+ghost use Rattle.std.specs.Prelude.{◌≡◌, ℕ, ◌+◌, ◌<◌, ◌≤◌, length, Some, Decides, MatchResult, slice_index_or, All};
 ghost use Rattle.blocks.specs.declared.types.ValueType.TheVariants.{Truth};
-ghost use Rattle.diagram.specs.declared.signals.Signal.TheVariants.{Block};
-ghost use Rattle.diagram.specs.Rules.{signal_at, pin_at, count_of, first_of};
-ghost use Rattle.diagram.specs.Typing.{type_at, HasType, Typed, missing, FirstMissing, PinFits, PinsFit, Fits, AllFit, FirstMisfit};
+ghost use Rattle.diagram.specs.Rules.{signal_at, pin_at};
+ghost use Rattle.diagram.specs.Typing.{HasType, Typed, missing, FirstMissing, PinFits, PinsFit, Fits, AllFit, FirstMisfit};
 
 use crate::fault::BlockFault;
 use crate::rules::Diagram;
@@ -11,15 +10,6 @@ use crate::signals::{Pin, Signal};
 use blocks::library::BlockLibrary;
 use blocks::types::{LibraryFault, Shape, ValueType};
 use blocks::values::in_type;
-
-fn same_type(a: ValueType, b: ValueType) -> bool
-    ensures { Decides result (a ≡ b) }
-{
-    match (a, b) {
-        (ValueType::Truth, ValueType::Truth) | (ValueType::Num, ValueType::Num) => true,
-        (ValueType::Truth, ValueType::Num) | (ValueType::Num, ValueType::Truth) => false,
-    }
-}
 
 // The type of a signal, where those of lower signals are known.
 fn type_of<L: BlockLibrary>(
@@ -32,15 +22,12 @@ fn type_of<L: BlockLibrary>(
 {
     match signal {
         Signal::Source(t) | Signal::Constant(t, _) => Ok(t),
-        Signal::Delay { default, input: _ } => Ok(types[default as usize]),
+        Signal::Delay { default, input: _ } => Ok(types[usize::from(default)]),
         Signal::Block {
             kind,
             first: _,
             count,
-        } => {
-            let shape = lib.shape_of(kind, count)?;
-            Ok(shape.output)
-        }
+        } => Ok(lib.shape_of(kind, count)?.output),
     }
 }
 
@@ -53,11 +40,10 @@ pub fn types_of<L: BlockLibrary>(
     requires { length d.now.signals.now ≤ length types.old }
     ensures { MatchResult result (λ _. Typed (L.shape lib.now) d.now.signals.now types.new (length d.now.signals.now)) (λ e. FirstMissing (L.shape lib.now) d.now.signals.now e) }
 {
-    for s in 0..d.signals.len() {
-        match type_of(lib, d.signals[s], types) {
-            Ok(t) => types[s] = t,
-            Err(fault) => return Err(BlockFault { signal: s, fault }),
-        }
+    // A delay has the type of a lower signal, so each type is set before the next is asked for.
+    for (s, signal) in d.signals.iter().enumerate() {
+        let t = type_of(lib, *signal, types).map_err(|fault| BlockFault { signal: s, fault })?;
+        types[s] = t;
     }
     Ok(())
 }
@@ -67,59 +53,48 @@ fn pin_fits(types: &[ValueType], pin: Pin, wanted: ValueType) -> bool
     requires { pin.signal < length types.now }
     ensures { Decides result (PinFits types.now pin wanted) }
 {
-    if !same_type(types[pin.signal as usize], wanted) {
-        return false;
-    }
-    !pin.inverted || same_type(wanted, ValueType::Truth)
+    types[usize::from(pin.signal)] == wanted && (!pin.inverted || wanted == ValueType::Truth)
 }
 
-// Whether the first pins of a stretch fit the types that a shape wants.
-fn pins_fit(types: &[ValueType], pins: &[Pin], first: usize, shape: Shape) -> bool
-    requires few { shape.count ≤ 8 }
-    requires stretch { first + shape.count ≤ length pins.now }
-    requires named { (p : ℕ) → p < shape.count → (pin_at pins.now (first + p)).signal < length types.now }
-    ensures { Decides result ((p : ℕ) → p < shape.count → PinFits types.now (pin_at pins.now (first + p)) (slice_index_or shape.pins p Truth)) }
+// Whether the pins of a block fit the types that its shape wants.
+fn pins_fit(types: &[ValueType], pins: &[Pin], shape: Shape) -> bool
+    requires few { length pins.now ≤ 8 }
+    requires named { All (λ pin. pin.signal < length types.now) pins.now }
+    ensures { Decides result ((p : ℕ) → p < length pins.now → PinFits types.now (pin_at pins.now p) (slice_index_or shape.pins p Truth)) }
 {
-    for p in 0..shape.count as usize {
-        if !pin_fits(types, pins[first + p], shape.pins[p]) {
-            return false;
+    pins.iter()
+        .zip(&shape.pins)
+        .all(|(pin, wanted)| pin_fits(types, *pin, *wanted))
+}
+
+// A diagram with its library and the types of its signals.
+#[derive(Drop)]
+struct Typing<'t, L> {
+    library: &'t L,
+    diagram: &'t Diagram<'t, 't>,
+    types: &'t [ValueType],
+    ghost size: { length diagram.now.signals.now ≤ length types.now },
+}
+
+impl<'t, L: BlockLibrary> Typing<'t, L> {
+    // Whether signal s fits the types.
+    fn signal_fits(&self, s: usize) -> bool
+        requires { s < length self.now.diagram.now.signals.now }
+        ensures { let d = self.now.diagram.now in Decides result (Fits (L.shape self.now.library.now) self.now.types.now d.pins.now (signal_at d.signals.now s)) }
+    {
+        match self.diagram.signals[s] {
+            Signal::Source(_) => true,
+            Signal::Constant(t, v) => in_type(t, v),
+            Signal::Delay { default, input } => {
+                self.types[usize::from(input)] == self.types[usize::from(default)]
+            }
+            Signal::Block { kind, first, count } => {
+                let pins = self.diagram.stretch_of(first, count);
+                self.library
+                    .shape_of(kind, count)
+                    .is_ok_and(|shape| pins_fit(self.types, pins, shape))
+            }
         }
-    }
-    true
-}
-
-// Whether the block's pins fit its shape.
-fn block_fits<L: BlockLibrary>(
-    lib: &L,
-    d: &Diagram,
-    types: &[ValueType],
-    kind: u16,
-    first: u16,
-    count: u8,
-) -> bool
-    requires stretch { first + count ≤ length d.now.pins.now }
-    requires named { (p : ℕ) → p < count → (pin_at d.now.pins.now (first + p)).signal < length types.now }
-    ensures { Decides result (PinsFit (L.shape lib.now kind count) types.now d.now.pins.now first) }
-{
-    match lib.shape_of(kind, count) {
-        Ok(shape) => pins_fit(types, d.pins, first as usize, shape),
-        Err(_) => false,
-    }
-}
-
-// Whether signal s fits the types.
-fn signal_fits<L: BlockLibrary>(lib: &L, d: &Diagram, types: &[ValueType], s: usize) -> bool
-    requires below { s < length d.now.signals.now }
-    requires size { length d.now.signals.now ≤ length types.now }
-    ensures { Decides result (Fits (L.shape lib.now) types.now d.now.pins.now (signal_at d.now.signals.now s)) }
-{
-    match d.signals[s] {
-        Signal::Source(_) => true,
-        Signal::Constant(t, v) => in_type(t, v),
-        Signal::Delay { default, input } => {
-            same_type(types[input as usize], types[default as usize])
-        }
-        Signal::Block { kind, first, count } => block_fits(lib, d, types, kind, first, count),
     }
 }
 
@@ -132,11 +107,21 @@ pub fn check_types<L: BlockLibrary>(
     requires { length d.now.signals.now ≤ length types.now }
     ensures { MatchResult result (λ _. AllFit (L.shape lib.now) types.now d.now.signals.now d.now.pins.now) (λ e. FirstMisfit (L.shape lib.now) types.now d.now.signals.now d.now.pins.now e) }
 {
-    for s in 0..d.signals.len() {
-        if !signal_fits(lib, d, types, s) {
-            let fault = LibraryFault::Unlawful;
-            return Err(BlockFault { signal: s, fault });
-        }
+    let typing = Typing {
+        library: lib,
+        diagram: d,
+        types,
+    };
+    let misfit = d
+        .signals
+        .iter()
+        .enumerate()
+        .position(|(s, _)| !typing.signal_fits(s));
+    match misfit {
+        None => Ok(()),
+        Some(signal) => Err(BlockFault {
+            signal,
+            fault: LibraryFault::Unlawful,
+        }),
     }
-    Ok(())
 }

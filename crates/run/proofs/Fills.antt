@@ -1,27 +1,18 @@
 -- Filling a table, entry by entry.
-use Rattle.std.proofs.Common.{◌≡◌, ℕ, zero, suc, ◌+◌, ◌*◌, ◌/◌, ◌%◌, ◌<◌, ◌≤◌, true, false, ◌≢◌, ◌⊎◌, List, length, set, ℤ, pos, Some, None, Option, sym, refl, ◌∙◌, subst, inl, inr, mod-lt, arith, length-set, get_or-set_other, get_or-set_same}
+use Rattle.std.proofs.Common.{◌≡◌, ℕ, zero, suc, ◌+◌, ◌*◌, ◌/◌, ◌%◌, ◌<◌, ◌≤◌, true, false, ◌≢◌, ◌⊎◌, List, length, set, ℤ, pos, Some, None, Option, sym, ◌∙◌, subst, inl, inr, mod-lt, arith, length-set, get_or-set_other, get_or-set_same}
 use Rattle.std.proofs.lemmas.Bool.{cases_lt, cases_Bool, false≢true, true≢false}
 use Rattle.blocks.specs.Blocks.{InType}
 use Rattle.blocks.specs.declared.types.ValueType.{ValueType}
 use Rattle.diagram.specs.declared.signals.Signal.{Signal}
 use Rattle.diagram.specs.declared.signals.Signal.TheVariants.{Source, Constant, Delay, Block}
 use Rattle.diagram.specs.declared.signals.Pin.{Pin}
-use Rattle.diagram.specs.declared.rules.Diagram.{Diagram}
 use Rattle.diagram.specs.Rules.{signal_at, Rules}
 use Rattle.diagram.specs.Typing.{Shapes, type_at}
 use Rattle.run.specs.Values.{value_at, InItsType, AllInType, is_source, SourceEntry, SourcesInType, TypedBelow, SourcesTyped}
 use Rattle.run.specs.Making.{Functions, makes, made_at, Is, Made, AllMade}
 use Rattle.run.specs.Runs.{FilledFrom, SameSources, Known, FilledIsRun, SourcesDetermine, Outputs, Counted}
-use Rattle.run.proofs.Places.{of_entry}
+use Rattle.std.proofs.lemmas.Nat.{div-add-mod'}
 use Rattle.run.proofs.Makes.{makes_same, makes_typed}
-
--- a diagram keeps the rules
-pub rules_of : (d : Diagram) → Rules d.signals.now d.pins.now
-rules_of d =
-    record {
-      range = record { some = d.some; few = d.few; brief = d.brief };
-      each = λ s h. record { sized = d.sized s h; named = d.named s h; stretch = d.stretch s h; lower = λ k. d.lower s k h };
-    }
 
 -- one value is made of a signal that is no source
 one_made : (f : Functions) (n : ℕ) (pins : List Pin) (T : List ℤ) (j : ℕ) (x : Signal) (a b : ℤ) → is_source x ≡ false → Is (makes f n pins T j x) a → Is (makes f n pins T j x) b → b ≡ a
@@ -46,10 +37,10 @@ module _ (f : Functions) (signals : List Signal) (pins : List Pin) (rules : Rule
   in_range e = mod-lt e rules.range.some
 
   -- what is made of an entry looks only at lower entries
-  pub made_at_same : (T U : List ℤ) (e : ℕ) → ((k : ℕ) → k < e → value_at T k ≡ value_at U k) → made_at f signals pins T e ≡ made_at f signals pins U e
+  made_at_same : (T U : List ℤ) (e : ℕ) → ((k : ℕ) → k < e → value_at T k ≡ value_at U k) → made_at f signals pins T e ≡ made_at f signals pins U e
   made_at_same T U e h =
       makes_same f (length signals) pins T U (e / length signals) (e % length signals) (signal_at signals (e % length signals)) (rules.each (e % length signals) (in_range e))
-      (λ k b. h k (omega (arith, b, of_entry (length signals) e)))
+      (λ k b. h k (omega (arith, b, div-add-mod' e (length signals))))
 
   pub made_same : (T U : List ℤ) (e : ℕ) → ((k : ℕ) → k < e + 1 → value_at T k ≡ value_at U k) → Made f signals pins T e → Made f signals pins U e
   made_same T U e h m =
@@ -102,9 +93,6 @@ module _ (f : Functions) (signals : List Signal) (pins : List Pin) (rules : Rule
       here : (k : ℕ) → k ≡ e → Made f signals pins (set T e v) k
       here k z = subst (λ i. Made f signals pins (set T e v) i) (sym z) (subst (λ o. Is o (value_at (set T e v) e)) (m ∙ same) (get_or-set_same T e v (pos 0) inside))
 
-pub filled_none : (f : Functions) (signals : List Signal) (pins : List Pin) (before : List ℤ) → FilledFrom f signals pins 0 before before
-filled_none f signals pins before = record { size = refl; sources = λ e s. refl; made = λ e b. absurd (omega arith); beyond = λ e b. refl }
-
 module _ (shapes : Shapes) (f : Functions) (signals : List Signal) (pins : List Pin) (types : List ValueType) (known : Known shapes f signals pins types) where
   -- what is made from sources of their types lies in its types
   typed_go : (T : List ℤ) (count : ℕ) → AllMade f signals pins T count → SourcesInType types signals T count → (m e : ℕ) → e < m → e < count → InItsType types (length signals) T e
@@ -120,7 +108,7 @@ module _ (shapes : Shapes) (f : Functions) (signals : List Signal) (pins : List 
       go lower (inl source) = sources e c source
       go lower (inr cell) =
           makes_typed types (length signals) T (e / length signals) (e % length signals) s_below
-          (λ k l. lower k (omega (arith, l, of_entry (length signals) e)))
+          (λ k l. lower k (omega (arith, l, div-add-mod' e (length signals))))
           shapes f pins (signal_at signals (e % length signals)) (known.rules.each (e % length signals) s_below) known.counted known.outputs
           (known.well.typed (e % length signals) s_below) (known.well.fits (e % length signals) s_below) cell (value_at T e) (made e c)
 
@@ -128,7 +116,7 @@ module _ (shapes : Shapes) (f : Functions) (signals : List Signal) (pins : List 
   made_typed T count made sources e b = typed_go T count made sources (suc e) e (omega arith) b
 
   -- the entries filled so far lie in their types
-  pub filled_typed : (before T : List ℤ) (count e : ℕ) → e ≤ count → SourcesInType types signals before count → FilledFrom f signals pins e before T → AllInType types (length signals) T e
+  filled_typed : (before T : List ℤ) (count e : ℕ) → e ≤ count → SourcesInType types signals before count → FilledFrom f signals pins e before T → AllInType types (length signals) T e
   filled_typed before T count e h sources g =
       made_typed T e g.made (λ k b s. subst (λ v. InType (type_at types (k % length signals)) v) (sym (g.sources k s)) (sources k (omega arith) s))
 

@@ -1,4 +1,4 @@
-pub mod Places
 pub mod Rows
 pub mod Makes
+pub mod Entries
 pub mod Fills

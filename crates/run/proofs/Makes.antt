@@ -10,7 +10,7 @@ use Rattle.diagram.specs.declared.signals.Signal.TheVariants.{Source, Constant, 
 use Rattle.diagram.specs.declared.signals.Pin.{Pin}
 use Rattle.diagram.specs.Rules.{pin_at, SignalRules}
 use Rattle.diagram.specs.Typing.{Shapes, type_at, Gives, HasType, PinFits, PinsFit, Fits}
-use Rattle.run.specs.Values.{value_at, AllInType, is_source, TypedBelow, TypedBefore}
+use Rattle.run.specs.Values.{value_at, AllInType, is_source}
 use Rattle.run.specs.Making.{Functions, shown, pin_shows, padded, LawfulFor, delay_reads, makes, Is}
 use Rattle.run.specs.Runs.{Outputs, Counted}
 use Rattle.run.proofs.Rows.{padded_length, padded_at, padded_past, padded_same}
@@ -116,8 +116,3 @@ module _ (types : List ValueType) (n : ℕ) (table : List ℤ) (j s : ℕ) (s<n 
   makes_typed shapes f pins (Block k first c) r counted outputs has fits cell v e =
       let g = gives shapes f k c (shapes k c) refl outputs (padded c (pin_shows pins first table (j * n))) (row_lawful types table (j * n) s lower (shapes k c) c (counted k c) pins first r.lower fits) (type_at types s) has in
       rw e g
-
--- what is known of the signals below s at step j
-pub typed_before : (shapes : Shapes) (signals : List Signal) (pins : List Pin) (table : List ℤ) (j s : ℕ) → s < length signals
-    → TypedBelow shapes signals pins table (j * length signals + s) → TypedBefore shapes signals pins table (j * length signals) s
-typed_before shapes signals pins table j s h t = record { types = t.types; well = t.well; values = lower_typed t.types (length signals) table j s h t.values }

@@ -1,5 +1,5 @@
 -- The values of a table, and their types. With n signals, signal s at step j, counted from 0, is entry j * n + s.
-use Rattle.std.specs.Prelude.{◌≡◌, ℕ, ◌+◌, ◌%◌, ◌<◌, Bool, true, false, List, length, ℤ, pos, slice_index_or}
+use Rattle.std.specs.Prelude.{◌≡◌, ℕ, ◌%◌, ◌<◌, Bool, true, false, List, length, ℤ, pos, slice_index_or}
 use Rattle.blocks.specs.Blocks.{InType}
 use Rattle.blocks.specs.declared.types.ValueType.{ValueType}
 use Rattle.diagram.specs.declared.signals.Signal.{Signal}
@@ -47,12 +47,6 @@ pub record TypedBelow (shapes : Shapes) (signals : List Signal) (pins : List Pin
   pub types : List ValueType
   pub well : WellTyped shapes signals pins types
   pub values : AllInType types (length signals) table count
-
--- the signals are well typed, and the values of those below s, at the step whose entries begin at `start`, lie in their types
-pub record TypedBefore (shapes : Shapes) (signals : List Signal) (pins : List Pin) (table : List ℤ) (start s : ℕ) : Type 0 where
-  pub types : List ValueType
-  pub well : WellTyped shapes signals pins types
-  pub values : (q : ℕ) → q < s → InType (type_at types q) (value_at table (start + q))
 
 -- the sources' values among the first `count` entries lie in their types
 abbrev pub SourcesInType : List ValueType → List Signal → List ℤ → ℕ → Type 0

@@ -1,5 +1,5 @@
 // The steps of a run, and the types of its values.
-ghost use Rattle.std.specs.Prelude.{◌≡◌, ℕ, ◌*◌, ◌<◌, ◌≤◌, length, Decides, MatchOption};
+ghost use Rattle.std.specs.Prelude.{◌<◌, length, Decides, MatchOption};
 ghost use Rattle.run.specs.Values.{AllInType, FirstOutside};
 ghost use Rattle.run.specs.Runs.{StepsFit};
 
@@ -14,19 +14,13 @@ pub fn steps_fit(steps: usize, back: usize) -> bool
     1 <= back && back <= steps && steps <= STEPS
 }
 
-// The lowest entry of `n` signals over the steps whose value lies outside its type.
-pub fn outside_type(types: &[ValueType], n: usize, steps: usize, table: &[i16]) -> Option<usize>
-    requires types { n ≤ length types.now }
-    requires table { n * steps ≤ length table.now }
-    ensures { MatchOption result (AllInType types.now n table.now (n * steps)) (λ e. FirstOutside types.now n table.now (n * steps) e) }
+// The lowest entry whose value lies outside its type, where the types of the signals come in turn.
+pub fn outside_type(types: &[ValueType], table: &[i16]) -> Option<usize>
+    requires { 0 < length table.now → 0 < length types.now }
+    ensures { MatchOption result (AllInType types.now (length types.now) table.now (length table.now)) (λ e. FirstOutside types.now (length types.now) table.now (length table.now) e) }
 {
-    for j in 0..steps {
-        let start = j * n;
-        for s in 0..n {
-            if !in_type(types[s], table[start + s]) {
-                return Some(start + s);
-            }
-        }
-    }
-    None
+    table
+        .iter()
+        .zip(types.iter().cycle())
+        .position(|(v, t)| !in_type(*t, *v))
 }

@@ -5,5 +5,5 @@ use Rattle.diagram.proofs.types.types_of.Given as goal
 
 abbrev pub invariant-loop-s : goal.invariant-loop-s
 invariant-loop-s g l =
-    Typed (g.L.BlockLibrary.shape l.lib) l.d.signals.now l.types l.s
-    × ((k : ℕ) → k < l.s → missing (g.L.BlockLibrary.shape l.lib) (signal_at l.d.signals.now k) ≡ None)
+    Typed (g.L.BlockLibrary.shape l.lib) l.d.signals.now l.types l.s-counter
+    × ((k : ℕ) → k < l.s-counter → missing (g.L.BlockLibrary.shape l.lib) (signal_at l.d.signals.now k) ≡ None)

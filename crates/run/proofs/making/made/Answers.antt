@@ -1,8 +1,17 @@
-use Rattle.std.proofs.Common.{rules}
-use Rattle.run.proofs.Makes.{typed_before}
+use Rattle.std.proofs.Common.{◌∙◌, arith, rules}
+use Rattle.run.proofs.Entries.{delay_lower, pins_lower, block_made}
 use Rattle.run.proofs.making.made.Goals as goal
 
-pub made_block-requires : goal.made_block-requires
-made_block-requires g c =
-    let t = typed_before (g.L.BlockLibrary.shape c.args.lib.now) c.args.d.now.signals.now c.args.d.now.pins.now c.args.table.now c.args.j c.args.s c.requires.signal c.requires.typed in
-    record { signal = c.requires.signal; block = search rules; inside = c.requires.inside; typed = t }
+pub delayed-requires : goal.delayed-requires
+delayed-requires g c = omega (arith, c.requires, delay_lower c.args.d.now c.args.e c.in-Delay.default c.in-Delay.input (search rules))
+
+pub row_at-row-requires-clause-inside : goal.row_at-row-requires-clause-inside
+row_at-row-requires-clause-inside g c =
+    let lower = pins_lower c.args.d.now c.args.e c.in-Block.kind c.in-Block.first c.in-Block.count (search rules) in
+    rw c.stretch_of.ensures (λ p x b. omega (arith, c.requires, lower p x b))
+
+pub returns-in-Block : goal.returns-in-Block
+returns-in-Block g c =
+    λ t. c.ok.ensures.value ∙ block_made c.args.d.now c.args.e c.in-Block.kind c.in-Block.first c.in-Block.count (search rules)
+    (g.L.BlockLibrary.shape c.args.lib.now) (g.L.BlockLibrary.function c.args.lib.now) (g.met.L.BlockLibrary.counted c.args.lib.now) c.args.table.now t
+    c.row_at-row.result (rw c.stretch_of.ensures at c.row_at-row.ensures) c.value.result c.value.ensures

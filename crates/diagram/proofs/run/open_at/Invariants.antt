@@ -1,7 +1,0 @@
-use Rattle.std.proofs.Common.{ℕ, ◌<◌}
-use Rattle.diagram.specs.Rules.{signal_at}
-use Rattle.diagram.specs.Values.{Closes}
-use Rattle.diagram.proofs.run.open_at.Given as goal
-
-abbrev pub invariant-loop-s : goal.invariant-loop-s
-invariant-loop-s l = (k : ℕ) → k < l.s → Closes l.table l.back l.last k (signal_at l.d.signals.now k)
