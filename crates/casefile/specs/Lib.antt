@@ -1,4 +1,5 @@
-pub mod Fields
 pub mod Cleared
 pub mod Passed
 pub mod Lines
+pub mod Names
+pub mod Pins

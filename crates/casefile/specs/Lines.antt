@@ -1,10 +1,10 @@
 -- Lines with their keys.
-use Rattle.std.specs.Prelude.{◌≡◌, ℕ, ◌+◌, ◌<◌, ◌≤◌, List, length, slice_index}
+use Rattle.std.specs.Prelude.{◌≡◌, ℕ, ◌+◌, ◌≤◌, List, length, take, drop}
 use Rattle.text.specs.Lines.{FirstFrom}
 
 -- the key stands at `at`
 abbrev pub KeyAt : List ℕ → ℕ → List ℕ → Type 0
-KeyAt bs at key = (k : ℕ) → k < length key → slice_index bs (at + k) ≡ slice_index key k
+KeyAt bs at key = take (length key) (drop at bs) ≡ key
 
 -- the line that begins at `at` is ended, has the key, and its value goes from `start` up to `end`
 pub record Keyed (bs : List ℕ) (at : ℕ) (key : List ℕ) (start end : ℕ) : Type 0 where

@@ -1,5 +1,5 @@
 -- What holds of a record that was read.
-use Rattle.std.specs.Prelude.{◌≤◌, List, take}
+use Rattle.std.specs.Prelude.{ℕ, ◌≤◌, List, take}
 use Rattle.diagram.specs.Rules.{Rules}
 use Rattle.diagram.specs.declared.signals.Signal.{Signal}
 use Rattle.diagram.specs.declared.signals.Pin.{Pin}
@@ -16,7 +16,7 @@ abbrev pub pins_of : Record → List Pin
 pins_of r = take r.pin_count r.pins
 
 -- its nodes
-abbrev pub nodes_of : Record → List Node
+abbrev pub nodes_of : Record → List (Node ℕ)
 nodes_of r = take r.node_count r.nodes
 
 -- the diagram keeps its rules, the nodes are one tree in order, and the loop step is one of the steps

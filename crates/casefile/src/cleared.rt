@@ -8,14 +8,11 @@ use diagram::signals::{Pin, Signal};
 use property::nodes::{Atom, NODES, Node};
 use sentence::terms::Span;
 
-// Bool sources, plain pins on signal 0, and zeros.
+// Bool sources, plain pins on signal 0, and zeros, in lists of full size as the record has them.
 pub fn clear() -> Record
     ensures { Cleared result }
 {
-    let nowhere = Span {
-        start: 0,
-        length: 0,
-    };
+    let nowhere = Span::default();
     let plain = Pin {
         signal: 0,
         inverted: false,

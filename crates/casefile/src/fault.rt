@@ -7,7 +7,7 @@ use diagram::fault::CaseFault;
 // A fault of a file, with its line, counted from 1, where it has one.
 #[derive(Clone, Copy)]
 pub enum FileFault {
-    // The file has more than LIMIT bytes.
+    // The file has more than FILE_LIMIT bytes.
     TooLong,
     // A line's key is not the expected one, or a line is missing, left over or not ended.
     Key { line: usize },

@@ -6,5 +6,7 @@ pub mod fault;
 mod form;
 mod line;
 mod names;
+mod piece;
+mod pins;
 pub mod read;
 pub mod record;

@@ -1,104 +1,136 @@
-// Names: which signal has a name, and what the drafts and terms of a file say once their names are known.
-ghost use Rattle.std.specs.Prelude.{◌≡◌, ℕ, ◌+◌, ◌<◌, ◌≤◌, length, IfSome};
+// Names: which signal has a name, and what the drafts and nodes of a file say once their names are known.
+ghost use Rattle.std.specs.Prelude.{◌≤◌, length};
 
-use crate::form::{Draft, Make, field_end, name_start, part};
+use crate::form::{Draft, Make, WrittenPin};
+use crate::piece::is_comma;
+use crate::pins::PinList;
 use blocks::named::NamedLibrary;
 use diagram::signals::{Pin, Signal};
-use property::nodes::{Atom, Node};
-use sentence::terms::{Span, Term, Test};
+use property::nodes::Node;
+use sentence::terms::Span;
 
 // The signals of a file, by their drafts, and the file that they are stretches of.
 #[derive(Clone, Copy)]
-pub struct Names<'b, 'd> {
+pub(crate) struct Names<'b, 'd> {
     pub bytes: &'b [u8],
     pub drafts: &'d [Draft],
+    ghost few: { length drafts.now ≤ 128 },
 }
 
-// The first signal of that name.
-pub(crate) fn find_signal(names: &Names, word: &[u8]) -> Option<u16>
-    requires { length names.now.drafts.now ≤ 128 }
-    ensures { IfSome result (λ s. s < length names.now.drafts.now) }
-{
-    for s in 0..names.drafts.len() {
-        let draft = names.drafts[s];
-        if part(names.bytes, draft.name) == word {
-            return Some(s as u16);
-        }
+impl<'b, 'd> Names<'b, 'd> {
+    ghost use Rattle.std.specs.Prelude.{◌≡◌, ◌<◌, ℕ, Bool, List, Decides, IfSome, MatchOption};
+    ghost use Rattle.casefile.specs.Names.{part, first_named, Repeats, node_of};
+    ghost use Rattle.casefile.specs.Pins.{Writes};
+
+    // The bytes of a stretch, as far as the file goes.
+    fn text(&self, span: Span) -> &'b [u8]
+        ensures { result.now ≡ part self.now.bytes.now span }
+    {
+        let rest = &self.bytes[span.start.min(self.bytes.len())..];
+        &rest[..span.length.min(rest.len())]
     }
-    None
-}
 
-// Adds the pins of a block to the pin list, after the `total` pins so far, as far as it has room, and gives their number.
-fn resolve_pins(names: &Names, pins: Span, list: &mut [Pin], total: usize) -> Option<usize>
-    requires { length names.now.drafts.now ≤ 128 }
-{
-    let value = part(names.bytes, pins);
-    let mut count = 0;
-    let mut at = 0;
-    while at <= value.len() {
-        let end = field_end(value, at);
-        let start = name_start(value, at);
-        if start > end {
+    // The index of the first draft of that name.
+    fn index_of(&self, name: &[u8]) -> Option<usize>
+        ensures first { result ≡ first_named self.now.bytes.now self.now.drafts.now name.now }
+        ensures below { IfSome result (λ s. s < length self.now.drafts.now) }
+    {
+        self.drafts
+            .iter()
+            .position(|draft| self.text(draft.name) == name)
+    }
+
+    // The first signal of that name.
+    fn find(&self, name: &[u8]) -> Option<u16>
+        ensures { result ≡ first_named self.now.bytes.now self.now.drafts.now name.now }
+    {
+        let s = self.index_of(name)?;
+        u16::try_from(s).ok()
+    }
+
+    // The first signal whose name stands there.
+    fn named(&self, place: Span) -> Option<u16>
+        ensures { result
+            ≡ first_named self.now.bytes.now self.now.drafts.now (part self.now.bytes.now place) }
+    {
+        self.find(self.text(place))
+    }
+
+    // Whether the name of signal s is that of an earlier one.
+    fn repeats(&self, s: usize, draft: Draft) -> bool
+        ensures { Decides result (Repeats self.now.bytes.now self.now.drafts.now s draft) }
+    {
+        self.named(draft.name)
+            .is_some_and(|first| usize::from(first) < s)
+    }
+
+    // The pin that a field says: none where its name is unknown.
+    fn pin(&self, field: &[u8]) -> Option<Pin>
+        ensures { MatchOption result
+            ((inverted : Bool) (name : List ℕ) → Writes field.now inverted name
+            → first_named self.now.bytes.now self.now.drafts.now name ≡ None)
+            (λ p. (name : List ℕ) × Writes field.now p.inverted name
+            × (first_named self.now.bytes.now self.now.drafts.now name ≡ Some p.signal)) }
+    {
+        let WrittenPin { name, inverted } = field.into();
+        let signal = self.find(name)?;
+        Some(Pin { signal, inverted })
+    }
+
+    // Adds the pins that the text lists: none where a name is unknown, as of every name.
+    fn add_pins(&self, text: &[u8], list: &mut PinList) -> Option<()>
+        ensures { list.old.met ≤ list.new.met }
+    {
+        for field in text.split(is_comma) {
+            list.add(self.pin(field)?);
+        }
+        Some(())
+    }
+
+    // A block once its kind and its names are known: none where one is unknown. Its pins are added to the list.
+    fn block<L: NamedLibrary>(
+        &self,
+        lib: &L,
+        kind: Span,
+        pins: Span,
+        list: &mut PinList,
+    ) -> Option<Signal> {
+        let kind = lib.find(self.text(kind))?;
+        let before = list.met;
+        self.add_pins(self.text(pins), list)?;
+        let first = u16::try_from(before).unwrap_or(u16::MAX);
+        let count = u8::try_from(list.met - before).unwrap_or(u8::MAX);
+        Some(Signal::Block { kind, first, count })
+    }
+
+    // The library stays a parameter beside the names: only blocks ask it.
+    // Signal s once its names are known: none where its name repeats an earlier one, or where a name or its kind is
+    // unknown.
+    pub(crate) fn signal<L: NamedLibrary>(
+        &self,
+        lib: &L,
+        s: usize,
+        draft: Draft,
+        list: &mut PinList,
+    ) -> Option<Signal> {
+        if self.repeats(s, draft) {
             return None;
         }
-        let signal = find_signal(names, &value[start..end])?;
-        let inverted = start > at;
-        if total < list.len() && count < list.len() - total {
-            list[total + count] = Pin { signal, inverted };
-        }
-        count += 1;
-        at = end + 1;
-    }
-    Some(count)
-}
-
-// A draft once its names are known: none where one of them, or its kind, is unknown. The pins of a block are added to the
-// pin list, and `total` counts them.
-pub(crate) fn resolve_signal<L: NamedLibrary>(
-    lib: &L,
-    names: &Names,
-    make: Make,
-    list: &mut [Pin],
-    total: &mut usize,
-) -> Option<Signal>
-    requires { length names.now.drafts.now ≤ 128 }
-{
-    match make {
-        Make::Source(of) => Some(Signal::Source(of)),
-        Make::Constant(of, v) => Some(Signal::Constant(of, v)),
-        Make::Delay { default, input } => {
-            let default = find_signal(names, part(names.bytes, default))?;
-            let input = find_signal(names, part(names.bytes, input))?;
-            Some(Signal::Delay { default, input })
-        }
-        Make::Block { kind, pins } => {
-            let kind = lib.find(part(names.bytes, kind))?;
-            let first = (*total).min(65_535) as u16;
-            let added = resolve_pins(names, pins, list, *total)?;
-            *total = (*total).saturating_add(added);
-            let count = added.min(255) as u8;
-            Some(Signal::Block { kind, first, count })
+        match draft.make {
+            Make::Source(of) => Some(Signal::Source(of)),
+            Make::Constant(of, v) => Some(Signal::Constant(of, v)),
+            Make::Delay { default, input } => Some(Signal::Delay {
+                default: self.named(default)?,
+                input: self.named(input)?,
+            }),
+            Make::Block { kind, pins } => self.block(lib, kind, pins, list),
         }
     }
-}
 
-// A term once its name is known: none where it is unknown.
-pub(crate) fn resolve_term(names: &Names, term: Term) -> Option<Node>
-    requires { length names.now.drafts.now ≤ 128 }
-{
-    match term {
-        Term::One(operator, side) => Some(Node::One(operator, side)),
-        Term::Two(operator, left, right) => Some(Node::Two(operator, left, right)),
-        Term::Atom { name, test } => {
-            let signal = find_signal(names, part(names.bytes, name))?;
-            match test {
-                Test::Holds => Some(Node::Atom(Atom::Truth { signal })),
-                Test::Compares(comparison, number) => Some(Node::Atom(Atom::Compare {
-                    signal,
-                    comparison,
-                    number,
-                })),
-            }
-        }
+    // A node once its name is known: none where it is unknown.
+    pub(crate) fn node(&self, node: Node<Span>) -> Option<Node<u16>>
+        ensures { result ≡ node_of self.now.bytes.now self.now.drafts.now node }
+    {
+        node.try_map(|name| self.named(name))
     }
 }

@@ -1,23 +1,27 @@
 // Reading a case file: its lines in their order, then its names, then the checks of the case.
-ghost use Rattle.std.specs.Prelude.{◌≡◌, ℕ, ◌+◌, ◌-◌, ◌*◌, ◌<◌, ◌≤◌, length, IfOk, Err, MatchResult, OnOk};
+ghost use Rattle.std.specs.Prelude.{◌≡◌, ◌+◌, ◌*◌, ◌<◌, ◌≤◌, length, take, drop, map, IfOk, IfErr, Any, Err, MatchResult, OnOk};
+ghost use Rattle.arrayvec.specs.ArrayVec.{array_vec_len};
 ghost use Rattle.casefile.specs.Cleared.{Cleared};
+ghost use Rattle.casefile.specs.Names.{node_of};
 ghost use Rattle.casefile.specs.Passed.{Passed};
 
 use crate::cleared::clear;
 use crate::fault::FileFault;
-use crate::form::{Draft, Make, part, read_count, read_row, read_signal};
-use crate::line::{Value, expect};
-use crate::names::{Names, find_signal, resolve_signal, resolve_term};
+use crate::form::{Draft, read_count, read_row, read_signal};
+use crate::line::Lines;
+use crate::names::Names;
+use crate::pins::PinList;
 use crate::record::{FILE_ENTRIES, FILE_PINS, FILE_SIGNALS, FILE_STEPS, Record};
+use arrayvec::ArrayVec;
 use blocks::named::NamedLibrary;
 use blocks::types::ValueType;
-use case::check::check_case;
+use case::Case;
 use diagram::fault::CaseFault;
-use diagram::rules::{check_rules, take_in};
-use diagram::signals::{PIN_LIST, Pin, Signal};
+use diagram::rules::Diagram;
+use diagram::signals::{PIN_LIST, Signal};
 use property::nodes::Node;
 use sentence::grammar::sentence;
-use sentence::terms::{Span, Terms};
+use sentence::terms::{Placed, Span, Terms};
 
 // The most bytes of a file, and of its property.
 pub const FILE_LIMIT: usize = 32_768;
@@ -28,202 +32,144 @@ pub const PROPERTY_LIMIT: usize = 512;
 const FIRST_SIGNAL: usize = 3;
 
 // The first line says which form of file this is.
-fn read_version(bytes: &[u8]) -> Result<usize, FileFault>
-    ensures { IfOk result (λ at. at ≤ length bytes.now) }
-{
-    let Value { start, end } = expect(bytes, 0, 1, b"case=")?;
-    if &bytes[start..end] != b"1".as_slice() {
-        return Err(FileFault::Form { line: 1 });
+fn read_version(lines: &mut Lines) -> Result<(), FileFault> {
+    let value = lines.expect(b"case=")?;
+    if value.text() != b"1".as_slice() {
+        return Err(value.refusal());
     }
-    Ok(end + 1)
+    Ok(())
 }
 
-// A line with a number from 1 to `high`: the number, and the place of the next line.
-fn read_count_line(
-    bytes: &[u8],
-    at: usize,
-    line: usize,
-    key: &[u8],
-    high: usize,
-) -> Result<(usize, usize), FileFault>
-    ensures { IfOk result (λ p. (1 ≤ p.0) × (p.0 ≤ high) × (p.1 ≤ length bytes.now)) }
+// A line with a number from 1 to `high`.
+fn read_number_line(lines: &mut Lines, key: &[u8], high: usize) -> Result<usize, FileFault>
+    ensures { IfOk result (λ n. (1 ≤ n) × (n ≤ high)) }
 {
-    let Value { start, end } = expect(bytes, at, line, key)?;
-    let Some(n) = read_count(&bytes[start..end], high) else {
-        return Err(FileFault::Form { line });
-    };
-    Ok((n, end + 1))
+    let value = lines.expect(key)?;
+    read_count(value.text(), high).ok_or(value.refusal())
 }
 
-// The lines of the signals, which give their drafts, and the place of the next line.
-fn read_signals(bytes: &[u8], from: usize, drafts: &mut [Draft]) -> Result<usize, FileFault>
-    requires start { from ≤ length bytes.now }
-    requires few { length drafts.old ≤ 128 }
-    ensures { IfOk result (λ at. at ≤ length bytes.now) }
+// The lines of n signals.
+fn read_signals(lines: &mut Lines, n: usize) -> Result<ArrayVec<Draft, FILE_SIGNALS>, FileFault>
+    requires { n ≤ 128 }
+    ensures { IfOk result (λ drafts. array_vec_len drafts ≡ n) }
 {
-    let mut at = from;
-    for s in 0..drafts.len() {
-        let line = s + FIRST_SIGNAL;
-        let Value { start, end } = expect(bytes, at, line, b"signal=")?;
-        let Some(draft) = read_signal(&bytes[0..end], start) else {
-            return Err(FileFault::Form { line });
-        };
-        drafts[s] = draft;
-        at = end + 1;
+    let mut drafts = ArrayVec::new();
+    for _ in 0..n {
+        let value = lines.expect(b"signal=")?;
+        drafts.push(read_signal(value.piece).ok_or(value.refusal())?);
     }
-    Ok(at)
+    Ok(drafts)
 }
 
-// The rows of the table, one for each step, and the place of the next line.
-fn read_rows(
-    bytes: &[u8],
-    from: usize,
-    n: usize,
-    steps: usize,
-    table: &mut [i16],
-) -> Result<usize, FileFault>
-    requires start { from ≤ length bytes.now }
+// The rows of the table, one of n values for each step.
+fn read_rows(lines: &mut Lines, n: usize, steps: usize, table: &mut [i16]) -> Result<(), FileFault>
     requires few { (n ≤ 128) × (steps ≤ 16) }
     requires room { length table.old ≡ 3072 }
-    ensures { IfOk result (λ at. at ≤ length bytes.now) }
+    ensures { OnOk result (drop (steps * n) table.new ≡ drop (steps * n) table.old) }
 {
-    let mut at = from;
+    // By index: of what is written through chunks the check knows nothing once the loop has ended.
     for j in 0..steps {
-        let line = n + j + FIRST_SIGNAL + 2;
-        let Value { start, end } = expect(bytes, at, line, b"row=")?;
-        if !read_row(&bytes[0..end], start, n, table, j * n) {
-            return Err(FileFault::Form { line });
-        }
-        at = end + 1;
+        let value = lines.expect(b"row=")?;
+        read_row(value.text(), &mut table[j * n..j * n + n]).ok_or(value.refusal())?;
     }
-    Ok(at)
+    Ok(())
 }
 
-// The line of the property, which is the last of the file.
-fn read_property(bytes: &[u8], at: usize, line: usize) -> Result<Terms, FileFault>
-    requires { line < 1000 }
-    ensures { IfOk result (λ t. 1 ≤ t.count) }
+// The line of the property.
+fn read_property(lines: &mut Lines) -> Result<Terms, FileFault>
+    ensures { IfOk result (λ terms. 1 ≤ array_vec_len terms) }
 {
-    let Value { start, end } = expect(bytes, at, line, b"prop=")?;
-    if end - start > PROPERTY_LIMIT {
-        return Err(FileFault::Form { line });
+    let value = lines.expect(b"prop=")?;
+    if value.text().len() > PROPERTY_LIMIT {
+        return Err(value.refusal());
     }
-    let Ok(terms) = sentence(&bytes[0..end], start) else {
-        return Err(FileFault::Sentence { line });
-    };
-    if end + 1 < bytes.len() {
-        return Err(FileFault::Key { line: line + 1 });
-    }
-    Ok(terms)
+    sentence(value.piece.bytes, value.piece.at).map_err(|_| FileFault::Sentence {
+        line: value.line,
+    })
 }
 
 // What the lines of a file say, while names are still stretches of the file.
-#[derive(Clone, Copy)]
+#[derive(Drop)]
 struct Sheet {
-    signal_count: usize,
-    drafts: [Draft; FILE_SIGNALS],
+    drafts: ArrayVec<Draft, FILE_SIGNALS>,
     steps: usize,
     back: usize,
     table: [i16; FILE_ENTRIES],
+    property_line: usize,
     terms: Terms,
-    ghost some: { 1 ≤ signal_count },
-    ghost few: { signal_count ≤ 128 },
     ghost short: { steps ≤ 16 },
-}
-
-// A draft that says nothing yet.
-fn no_draft() -> Draft {
-    let name = Span {
-        start: 0,
-        length: 0,
-    };
-    let make = Make::Source(ValueType::Truth);
-    Draft { name, make }
 }
 
 // Reads all lines; declined at the first bad one.
 fn read_lines(bytes: &[u8]) -> Result<Sheet, FileFault> {
-    let at = read_version(bytes)?;
-    let (signal_count, at) = read_count_line(bytes, at, 2, b"signals=", FILE_SIGNALS)?;
-    let mut drafts = [no_draft(); FILE_SIGNALS];
-    let at = read_signals(bytes, at, &mut drafts[0..signal_count])?;
-    let line = signal_count + FIRST_SIGNAL;
-    let (steps, at) = read_count_line(bytes, at, line, b"steps=", FILE_STEPS)?;
-    let (back, at) = read_count_line(bytes, at, line + 1, b"loop=", FILE_STEPS)?;
-    let mut table = [0i16; FILE_ENTRIES];
-    let at = read_rows(bytes, at, signal_count, steps, &mut table)?;
-    let terms = read_property(bytes, at, line + 2 + steps)?;
+    let mut lines = Lines::new(bytes);
+    read_version(&mut lines)?;
+    let n = read_number_line(&mut lines, b"signals=", FILE_SIGNALS)?;
+    let drafts = read_signals(&mut lines, n)?;
+    let steps = read_number_line(&mut lines, b"steps=", FILE_STEPS)?;
+    let back = read_number_line(&mut lines, b"loop=", FILE_STEPS)?;
+    let mut table = [0; FILE_ENTRIES];
+    read_rows(&mut lines, n, steps, &mut table)?;
+    let property_line = lines.line;
+    let terms = read_property(&mut lines)?;
+    lines.end()?;
     Ok(Sheet {
-        signal_count,
         drafts,
         steps,
         back,
         table,
+        property_line,
         terms,
     })
 }
 
-// Whether the name of signal s is that of an earlier one.
-fn repeats(names: &Names, s: usize) -> bool
-    requires few { length names.now.drafts.now ≤ 128 }
-    requires below { s < length names.now.drafts.now }
-{
-    let draft = names.drafts[s];
-    let bytes = names.bytes;
-    let drafts = &names.drafts[0..s];
-    let earlier = Names { bytes, drafts };
-    find_signal(&earlier, part(bytes, draft.name)).is_some()
-}
-
-// The signals and their pins, once names and kinds are known; the answer is the number of pins, stored or not. Declined at
-// the lowest line whose name repeats an earlier one, or that has a name or kind that is unknown.
+// The signals with the places of their names, and their pins, once names and kinds are known. Declined at the lowest line
+// whose name repeats an earlier one, or that has a name or kind that is unknown.
 fn resolve_signals<L: NamedLibrary>(
     lib: &L,
     names: &Names,
     signals: &mut [Signal],
-    pins: &mut [Pin],
-) -> Result<usize, FileFault>
-    requires few { length names.now.drafts.now ≤ 128 }
-    requires room { length names.now.drafts.now ≤ length signals.old }
+    places: &mut [Span],
+    pins: &mut PinList,
+) -> Result<(), FileFault>
+    requires signals { length signals.old ≡ length names.now.drafts.now }
+    requires places { length places.old ≡ length names.now.drafts.now }
+    ensures { OnOk result (places.new ≡ map (λ d. d.name) names.now.drafts.now) }
 {
-    let mut total = 0;
-    for s in 0..names.drafts.len() {
+    // By place in what is written: of what is written through `zip` the check knows nothing once the loop has ended.
+    for (s, draft) in names.drafts.iter().enumerate() {
         let line = s + FIRST_SIGNAL;
-        if repeats(names, s) {
-            return Err(FileFault::Name { line });
-        }
-        let draft = names.drafts[s];
-        let Some(signal) = resolve_signal(lib, names, draft.make, pins, &mut total) else {
-            return Err(FileFault::Name { line });
-        };
-        signals[s] = signal;
-    }
-    Ok(total)
-}
-
-// The nodes of the property, once the names of their atoms are known; none where one is unknown.
-fn resolve_nodes(names: &Names, terms: &Terms, nodes: &mut [Node]) -> Option<()>
-    requires few { length names.now.drafts.now ≤ 128 }
-    requires room { terms.now.count ≤ length nodes.old }
-{
-    for f in 0..terms.count {
-        let term = terms.items[f];
-        let Some(node) = resolve_term(names, term) else {
-            return None;
-        };
-        nodes[f] = node;
-    }
-    Some(())
-}
-
-// The names of the signals.
-fn name_places(drafts: &[Draft], places: &mut [Span])
-    requires { length drafts.now ≤ length places.old }
-{
-    for s in 0..drafts.len() {
-        let draft = drafts[s];
+        signals[s] = names
+            .signal(lib, s, *draft, pins)
+            .ok_or(FileFault::Name { line })?;
         places[s] = draft.name;
     }
+    Ok(())
+}
+
+// The nodes of the property, whose line is `line`, with the places of their words, once the names of their atoms are
+// known. Declined where one is unknown.
+fn resolve_nodes(
+    names: &Names,
+    terms: &[Placed],
+    line: usize,
+    nodes: &mut [Node<u16>],
+    places: &mut [Span],
+) -> Result<(), FileFault>
+    requires nodes { length nodes.old ≡ length terms.now }
+    requires places { length places.old ≡ length terms.now }
+    ensures nodes { OnOk result (map Some nodes.new
+        ≡ map (λ t. node_of names.now.bytes.now names.now.drafts.now t.node) terms.now) }
+    ensures places { OnOk result (places.new ≡ map (λ t. t.place) terms.now) }
+    ensures unknown { IfErr result (λ e. (e ≡ FileFault.Name line)
+        × Any (λ t. node_of names.now.bytes.now names.now.drafts.now t.node ≡ None) terms.now) }
+{
+    // By place in what is written, as above.
+    for (f, term) in terms.iter().enumerate() {
+        nodes[f] = names.node(term.node).ok_or(FileFault::Name { line })?;
+        places[f] = term.place;
+    }
+    Ok(())
 }
 
 // The record that the lines describe, once names and kinds are known. A file with too many pins is declined after its
@@ -231,33 +177,46 @@ fn name_places(drafts: &[Draft], places: &mut [Span])
 fn resolve<L: NamedLibrary>(lib: &L, bytes: &[u8], sheet: &Sheet) -> Result<Record, FileFault> {
     let blank = clear();
     let mut signals = blank.signals;
-    let mut pins = blank.pins;
     let mut nodes = blank.nodes;
-    let mut places = blank.names;
-    let signal_count = sheet.signal_count;
-    let drafts = &sheet.drafts[0..signal_count];
+    let mut signal_places = blank.names;
+    let mut node_places = blank.places;
+    let pins = blank.pins;
+    let mut list = PinList { pins, met: 0 };
+    let drafts = sheet.drafts.as_slice();
+    let signal_count = drafts.len();
     let names = Names { bytes, drafts };
-    let total = resolve_signals(lib, &names, &mut signals, &mut pins)?;
-    let line = signal_count + sheet.steps + FIRST_SIGNAL + 2;
-    let Some(()) = resolve_nodes(&names, &sheet.terms, &mut nodes) else {
-        return Err(FileFault::Name { line });
-    };
-    if total > PIN_LIST {
+    resolve_signals(
+        lib,
+        &names,
+        &mut signals[..signal_count],
+        &mut signal_places[..signal_count],
+        &mut list,
+    )?;
+    let terms = sheet.terms.as_slice();
+    let node_count = terms.len();
+    resolve_nodes(
+        &names,
+        terms,
+        sheet.property_line,
+        &mut nodes[..node_count],
+        &mut node_places[..node_count],
+    )?;
+    let PinList { pins, met } = list;
+    if met > PIN_LIST {
         return Err(FileFault::Case(CaseFault::Size));
     }
-    name_places(drafts, &mut places);
     Ok(Record {
         signal_count,
         signals,
-        names: places,
-        pin_count: total.min(FILE_PINS),
+        names: signal_places,
+        pin_count: met.min(FILE_PINS),
         pins,
         steps: sheet.steps,
         back: sheet.back,
         table: sheet.table,
-        node_count: sheet.terms.count,
+        node_count,
         nodes,
-        places: sheet.terms.places,
+        places: node_places,
     })
 }
 
@@ -265,32 +224,23 @@ fn resolve<L: NamedLibrary>(lib: &L, bytes: &[u8], sheet: &Sheet) -> Result<Reco
 fn check_record<L: NamedLibrary>(lib: &L, rec: &Record) -> Result<(), CaseFault>
     ensures { OnOk result (Passed rec.now) }
 {
-    let signal_count = rec.signal_count;
-    let pin_count = rec.pin_count;
-    let node_count = rec.node_count;
-    let signals = &rec.signals[0..signal_count];
-    let pins = &rec.pins[0..pin_count];
-    check_rules(signals, pins)?;
-    let d = take_in(signals, pins);
+    let (signals, pins) = (rec.signals(), rec.pins());
+    let d = Diagram::new(signals, pins)?;
     let mut types = [ValueType::Truth; FILE_SIGNALS];
-    check_case(
-        lib,
-        &d,
-        &rec.nodes[0..node_count],
-        rec.steps,
-        rec.back,
-        &mut types[0..signal_count],
-    )
+    let case = Case {
+        library: lib,
+        diagram: &d,
+        nodes: rec.nodes(),
+        steps: rec.steps,
+        back: rec.back,
+    };
+    case.check(&mut types[..rec.signal_count])
 }
 
 // The record of a file.
 fn parse<L: NamedLibrary>(lib: &L, bytes: &[u8]) -> Result<Record, FileFault>
-    ensures passed { IfOk result (λ rec. Passed rec) }
-    ensures long { 32768 < length bytes.now → result ≡ Err FileFault.TooLong }
+    ensures { IfOk result (λ rec. Passed rec) }
 {
-    if bytes.len() > FILE_LIMIT {
-        return Err(FileFault::TooLong);
-    }
     let sheet = read_lines(bytes)?;
     let rec = resolve(lib, bytes, &sheet)?;
     check_record(lib, &rec)?;
@@ -303,14 +253,10 @@ pub fn read<L: NamedLibrary>(lib: &L, bytes: &[u8], rec: &mut Record) -> Result<
     ensures left { MatchResult result (λ _. Passed rec.new) (λ _. Cleared rec.new) }
     ensures long { 32768 < length bytes.now → result ≡ Err FileFault.TooLong }
 {
-    match parse(lib, bytes) {
-        Ok(read) => {
-            *rec = read;
-            Ok(())
-        }
-        Err(fault) => {
-            *rec = clear();
-            Err(fault)
-        }
+    *rec = clear();
+    if bytes.len() > FILE_LIMIT {
+        return Err(FileFault::TooLong);
     }
+    *rec = parse(lib, bytes)?;
+    Ok(())
 }

@@ -1,5 +1,5 @@
-use Rattle.std.proofs.Common.{◌≤◌, length}
+use Rattle.std.proofs.Common.{◌≡◌, ◌*◌, drop}
 use Rattle.casefile.proofs.read.read_rows.Given as goal
 
 abbrev pub invariant-loop-j : goal.invariant-loop-j
-invariant-loop-j l = l.at ≤ length l.bytes
+invariant-loop-j l = drop (l.j * l.n) l.table ≡ drop (l.j * l.n) l.fn.table

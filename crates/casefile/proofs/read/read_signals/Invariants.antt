@@ -1,5 +1,6 @@
-use Rattle.std.proofs.Common.{◌≤◌, length}
+use Rattle.std.proofs.Common.{◌≡◌}
+use Rattle.arrayvec.specs.ArrayVec.{array_vec_len}
 use Rattle.casefile.proofs.read.read_signals.Given as goal
 
-abbrev pub invariant-loop-s : goal.invariant-loop-s
-invariant-loop-s l = l.at ≤ length l.bytes
+abbrev pub invariant-loop : goal.invariant-loop
+invariant-loop l = array_vec_len l.drafts ≡ l.counter
