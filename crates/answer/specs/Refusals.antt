@@ -1,18 +1,12 @@
 -- The number, the place and the letter of each fault.
-use Rattle.std.specs.Prelude.{ℕ, Some, None}
-use Rattle.blocks.specs.declared.types.LibraryFault.{LibraryFault}
-use Rattle.blocks.specs.declared.types.LibraryFault.TheVariants.{UnknownKind, NoSuchCount, Unlawful}
+use Rattle.std.specs.Prelude.{ℕ, List, [], ◌++◌, Some, None, Option, codes, decimal}
+use Rattle.std.specs.Char.{encode_utf8}
+use Rattle.blocks.specs.Letters.{letter_of}
 use Rattle.diagram.specs.declared.fault.CaseFault.{CaseFault}
 use Rattle.diagram.specs.declared.fault.CaseFault.TheVariants.{Size, Rule, Types, Tree, Atom, Steps, Length, Value, Made, Loop}
 use Rattle.casefile.specs.declared.fault.FileFault.{FileFault}
 use Rattle.casefile.specs.declared.fault.FileFault.TheVariants.{TooLong, Key, Form, Sentence, Name, Case}
 use Rattle.answer.specs.declared.refusal.Refusal.{Refusal}
-
--- K, P or T
-abbrev pub letter_of : LibraryFault → ℕ
-letter_of UnknownKind = 75
-letter_of NoSuchCount = 80
-letter_of Unlawful = 84
 
 -- a refusal without a letter
 abbrev pub plainly : ℕ → ℕ → Refusal
@@ -39,3 +33,12 @@ refusal_of (Form n) = plainly 3 n
 refusal_of (Sentence n) = plainly 4 n
 refusal_of (Name n) = plainly 5 n
 refusal_of (Case e) = case_refusal e
+
+-- the letter as it is printed, where there is one: a comma and the letter
+abbrev pub letter_text : Option ℕ → List ℕ
+letter_text None = []
+letter_text (Some letter) = codes "," ++ encode_utf8 letter
+
+-- the refusal as it is printed: `refused=`, the number, a comma, the place, and the letter
+abbrev pub refusal_text : Refusal → List ℕ
+refusal_text r = codes "refused=" ++ (decimal r.number ++ (codes "," ++ (decimal r.place ++ letter_text r.letter)))

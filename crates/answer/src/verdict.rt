@@ -2,9 +2,10 @@
 ghost use Rattle.std.specs.Prelude.{◌≡◌, ◌+◌, ◌*◌, ◌<◌, ◌≤◌, length, Err};
 ghost use Rattle.casefile.specs.Passed.{Passed};
 
+use crate::outcome::Verdict;
 use blocks::gates::Gates;
 use blocks::pair::Pair;
-use case::open::open;
+use case::Case;
 use casefile::cleared::clear;
 use casefile::fault::FileFault;
 use casefile::read::read;
@@ -33,32 +34,26 @@ fn entries(n: usize, m: usize, steps: usize) -> usize
 fn open_record(rec: &Record) -> Result<bool, CaseFault>
     requires { Passed rec.now }
 {
-    let (n, p, m) = (rec.signal_count, rec.pin_count, rec.node_count);
-    let signals = &rec.signals[0..n];
-    let pins = &rec.pins[0..p];
-    let d = take_in(signals, pins);
+    let diagram = take_in(rec.signals(), rec.pins());
+    let case = Case {
+        library: &file_library(),
+        diagram: &diagram,
+        nodes: rec.nodes(),
+        steps: rec.steps,
+        back: rec.back,
+    };
+    let count = entries(rec.signal_count, rec.node_count, rec.steps);
     let mut table = rec.table;
-    let mut marks = [0u8; FILE_ENTRIES];
-    let count = entries(n, m, rec.steps);
-    let lib = file_library();
-    open(
-        &lib,
-        &d,
-        &rec.nodes[0..m],
-        rec.steps,
-        rec.back,
-        &mut table[0..count],
-        &mut marks[0..count],
-    )
+    let mut marks = [0; FILE_ENTRIES];
+    case.open(&mut table[..count], &mut marks[..count])
 }
 
 // Whether the property of a case file holds.
-pub fn verdict(bytes: &[u8]) -> Result<bool, FileFault>
+pub fn verdict(bytes: &[u8]) -> Result<Verdict, FileFault>
     ensures { 32768 < length bytes.now → result ≡ Err FileFault.TooLong }
 {
     let lib = file_library();
     let mut rec = clear();
     read(&lib, bytes, &mut rec)?;
-    let holds = open_record(&rec)?;
-    Ok(holds)
+    Ok(open_record(&rec)?.into())
 }
