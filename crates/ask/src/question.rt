@@ -1,5 +1,5 @@
 // Questions: a library, a block of it, a row and a set of pins, the words of a line with one space between them.
-ghost use Rattle.blocks.specs.Blocks.{ShapeAnswer, ValueAnswer, ForcesAnswer};
+ghost use Rattle.ask.specs.Asked.{Answers, AnswersOf};
 
 use crate::answer::Answer;
 use blocks::gates::Gates;
@@ -84,9 +84,7 @@ impl FromStr for Question {
 impl Question {
     // What a library answers.
     fn ask<L: BlockLibrary>(&self, library: &L) -> Answer
-        ensures shape { ShapeAnswer (L.BlockLibrary.shape library.now self.now.kind self.now.count) result.shape }
-        ensures value { ValueAnswer (L.BlockLibrary.shape library.now self.now.kind self.now.count) (L.BlockLibrary.function library.now self.now.kind self.now.count) self.now.row result.value }
-        ensures forces { ForcesAnswer (L.BlockLibrary.shape library.now self.now.kind self.now.count) (L.BlockLibrary.function library.now self.now.kind self.now.count) self.now.row self.now.pins result.forces }
+        ensures { Answers (L.BlockLibrary.shape library.now) (L.BlockLibrary.function library.now) self.now result }
     {
         Answer {
             shape: library.shape_of(self.kind, self.count),
@@ -96,7 +94,9 @@ impl Question {
     }
 
     // What the library that is asked answers.
-    pub fn answer(&self, tables: &Tables) -> Answer {
+    pub fn answer(&self, tables: &Tables) -> Answer
+        ensures { AnswersOf self.now.source tables.now self.now result }
+    {
         match self.source {
             Source::Gates => self.ask(&Gates),
             Source::Numbers => self.ask(&Numbers),
