@@ -19,7 +19,7 @@ impl<T: fmt::Display> fmt::Display for Field<T> {
 #[derive(Drop)]
 struct Letters(Shape);
 
-// The letter of a type.
+// The letter of a type: a function and no conversion, since a type has a letter in these answers alone.
 fn letter(of: ValueType) -> char {
     match of {
         ValueType::Truth => 'b',
