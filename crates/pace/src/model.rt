@@ -6,13 +6,13 @@ use diagram::signals::{Pin, Signal};
 use std::array;
 
 // The numbers of its signals, of its pins and of its steps.
-pub const SIGNALS: usize = 1024;
+pub(crate) const SIGNALS: usize = 1024;
 
-pub const PIN_LIST: usize = 4096;
+pub(crate) const PIN_LIST: usize = 4096;
 
-pub const STEPS: usize = 64;
+pub(crate) const STEPS: usize = 64;
 
-pub const ENTRIES: usize = SIGNALS * STEPS;
+pub(crate) const ENTRIES: usize = SIGNALS * STEPS;
 
 // The type of a signal.
 fn type_of(s: usize) -> ValueType {
@@ -55,7 +55,7 @@ fn signal(s: usize) -> Signal
 }
 
 // The signals.
-pub fn signals() -> [Signal; SIGNALS] {
+pub(crate) fn signals() -> [Signal; SIGNALS] {
     array::from_fn(signal)
 }
 
@@ -71,7 +71,7 @@ fn pin(k: usize) -> Pin
 }
 
 // The pins.
-pub fn pins() -> [Pin; PIN_LIST] {
+pub(crate) fn pins() -> [Pin; PIN_LIST] {
     array::from_fn(pin)
 }
 
@@ -88,6 +88,6 @@ fn value(e: usize) -> i16 {
 }
 
 // The table with the sources' values.
-pub fn sources() -> [i16; ENTRIES] {
+pub(crate) fn sources() -> [i16; ENTRIES] {
     array::from_fn(value)
 }

@@ -71,7 +71,7 @@ fn rounds_of<L: BlockLibrary>(library: &L, d: &Diagram, rounds: u16) -> Option<i
 }
 
 // As many rounds with the largest diagram over gates and numbers.
-pub fn run(signals: &[Signal; SIGNALS], pins: &[Pin], rounds: u16) -> Option<i64> {
+pub(crate) fn run(signals: &[Signal; SIGNALS], pins: &[Pin], rounds: u16) -> Option<i64> {
     let library = Pair {
         first: Gates,
         second: Numbers,
