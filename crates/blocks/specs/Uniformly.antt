@@ -44,12 +44,17 @@ module _ {O : Type 0} (takes : O → ℕ → Bool) (pin : ValueType) (output : O
     grind arith,
   )
 
-  -- a block has as many pins as its count says
+  -- a block has as many pins as its count says, if its operation takes at most eight
+  pub counted_where : (k : Option O) (c : ℕ) → ((o : O) → k ≡ Some o → takes o c ≡ true → c ≤ 8) → (pins : List ValueType) (out : ValueType)
+      → shape_at takes pin output k c ≡ shaped pins out → (length pins ≡ c) × (c ≤ 8)
+  counted_where k c few pins out e =
+      let s = shaped_is k c pins out e in
+      (ap length s.3 ∙ length-replicate c pin, few s.0 s.1 s.2)
+
+  -- so it has if no operation takes more than eight
   pub counted_by : ((o : O) (c : ℕ) → takes o c ≡ true → c ≤ 8) → (k : Option O) (c : ℕ) (pins : List ValueType) (out : ValueType)
       → shape_at takes pin output k c ≡ shaped pins out → (length pins ≡ c) × (c ≤ 8)
-  counted_by few k c pins out e =
-      let s = shaped_is k c pins out e in
-      (ap length s.3 ∙ length-replicate c pin, few s.0 c s.2)
+  counted_by few k c pins out e = counted_where k c (λ o _ t. few o c t) pins out e
 
   -- the output of a lawful row is lawful, if each operation's is
   pub lawful_by : ((o : O) (c : ℕ) (row : List ℤ) → takes o c ≡ true → Lawful (replicate c pin) row → InType (output o) (result o c row))

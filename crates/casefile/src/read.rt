@@ -32,7 +32,9 @@ pub const PROPERTY_LIMIT: usize = 512;
 const FIRST_SIGNAL: usize = 3;
 
 // The first line says which form of file this is.
-fn read_version(lines: &mut Lines) -> Result<(), FileFault> {
+fn read_version(lines: &mut Lines) -> Result<(), FileFault>
+    ensures { lines.new.rest.bytes.now ≡ lines.old.rest.bytes.now }
+{
     let value = lines.expect(b"case=")?;
     if value.text() != b"1".as_slice() {
         return Err(value.refusal());
@@ -42,7 +44,8 @@ fn read_version(lines: &mut Lines) -> Result<(), FileFault> {
 
 // A line with a number from 1 to `high`.
 fn read_number_line(lines: &mut Lines, key: &[u8], high: usize) -> Result<usize, FileFault>
-    ensures { IfOk result (λ n. (1 ≤ n) × (n ≤ high)) }
+    ensures range { IfOk result (λ n. (1 ≤ n) × (n ≤ high)) }
+    ensures same { lines.new.rest.bytes.now ≡ lines.old.rest.bytes.now }
 {
     let value = lines.expect(key)?;
     read_count(value.text(), high).ok_or(value.refusal())
@@ -51,7 +54,8 @@ fn read_number_line(lines: &mut Lines, key: &[u8], high: usize) -> Result<usize,
 // The lines of n signals.
 fn read_signals(lines: &mut Lines, n: usize) -> Result<ArrayVec<Draft, FILE_SIGNALS>, FileFault>
     requires { n ≤ 128 }
-    ensures { IfOk result (λ drafts. array_vec_len drafts ≡ n) }
+    ensures count { IfOk result (λ drafts. array_vec_len drafts ≡ n) }
+    ensures same { lines.new.rest.bytes.now ≡ lines.old.rest.bytes.now }
 {
     let mut drafts = ArrayVec::new();
     for _ in 0..n {
@@ -65,7 +69,8 @@ fn read_signals(lines: &mut Lines, n: usize) -> Result<ArrayVec<Draft, FILE_SIGN
 fn read_rows(lines: &mut Lines, n: usize, steps: usize, table: &mut [i16]) -> Result<(), FileFault>
     requires few { (n ≤ 128) × (steps ≤ 16) }
     requires room { length table.old ≡ 3072 }
-    ensures { OnOk result (drop (steps * n) table.new ≡ drop (steps * n) table.old) }
+    ensures behind { OnOk result (drop (steps * n) table.new ≡ drop (steps * n) table.old) }
+    ensures same { lines.new.rest.bytes.now ≡ lines.old.rest.bytes.now }
 {
     // By index: of what is written through chunks the check knows nothing once the loop has ended.
     for j in 0..steps {
@@ -77,7 +82,8 @@ fn read_rows(lines: &mut Lines, n: usize, steps: usize, table: &mut [i16]) -> Re
 
 // The line of the property.
 fn read_property(lines: &mut Lines) -> Result<Terms, FileFault>
-    ensures { IfOk result (λ terms. 1 ≤ array_vec_len terms) }
+    ensures some { IfOk result (λ terms. 1 ≤ terms.count) }
+    ensures same { lines.new.rest.bytes.now ≡ lines.old.rest.bytes.now }
 {
     let value = lines.expect(b"prop=")?;
     if value.text().len() > PROPERTY_LIMIT {
@@ -97,6 +103,7 @@ struct Sheet {
     table: [i16; FILE_ENTRIES],
     property_line: usize,
     terms: Terms,
+    ghost some: { 1 ≤ array_vec_len drafts },
     ghost short: { steps ≤ 16 },
 }
 

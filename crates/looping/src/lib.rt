@@ -90,12 +90,13 @@ impl Lasso {
         match op {
             Unary::Not => each_step(|i| !child[i], run),
             Unary::Next => each_step(|i| child[step_after(i + 1, self.steps, self.back) - 1], run),
-            Unary::Finally => pass_twice(|i, carried| child[i] || carried, false, self.back, run),
-            Unary::Globally => pass_twice(|i, carried| child[i] && carried, true, self.back, run),
+            Unary::Finally => pass_twice(|i, carried| child[i] | carried, false, self.back, run),
+            Unary::Globally => pass_twice(|i, carried| child[i] & carried, true, self.back, run),
         }
     }
 
-    // The truths of an operator between two sides, from those of the sides.
+    // The truths of an operator between two sides, from those of the sides. They are `&` and `|`, which look at both sides
+    // always, so that no step waits for a branch.
     pub fn two(self, op: Binary, left: &[bool], right: &[bool], truths: &mut [bool])
         requires { (self.steps ≤ length left.now) × ((self.steps ≤ length right.now) × (self.steps ≤ length truths.old)) }
         ensures means { (i : ℕ) → Within self.steps i → Decides (at truths.new i) (Means2 op self.steps self.back (On (at left.now)) (On (at right.now)) i) }
@@ -103,11 +104,11 @@ impl Lasso {
     {
         let run = &mut truths[..self.steps];
         match op {
-            Binary::And => each_step(|i| left[i] && right[i], run),
-            Binary::Or => each_step(|i| left[i] || right[i], run),
-            Binary::Implies => each_step(|i| !left[i] || right[i], run),
+            Binary::And => each_step(|i| left[i] & right[i], run),
+            Binary::Or => each_step(|i| left[i] | right[i], run),
+            Binary::Implies => each_step(|i| !left[i] | right[i], run),
             Binary::Until => pass_twice(
-                |i, carried| right[i] || (left[i] && carried),
+                |i, carried| right[i] | (left[i] & carried),
                 false,
                 self.back,
                 run,

@@ -24,6 +24,16 @@ Means holds l c (Two o x y) column j = Means2 o l c (On (column x)) (On (column 
 abbrev pub Shows : List (List Bool) → ℕ → ℤ → Type 0
 Shows columns p v = v ≡ cond (spot columns (p % length columns) (suc (p / length columns))) (pos 1) (pos 0)
 
+-- the value is the truth, as a number, of node f at step j, counted from 0
+abbrev pub ShowsAt : List (List Bool) → ℕ → ℕ → ℤ → Type 0
+ShowsAt columns f j v = v ≡ cond (spot columns f (suc j)) (pos 1) (pos 0)
+
+-- f is the lowest node that has not its truth at step j, counted from 0
+pub record FirstWrongAt (columns : List (List Bool)) (j : ℕ) (step : List ℤ) (f : ℕ) : Type 0 where
+  pub few : f < length columns
+  pub wrong : ShowsAt columns f j (value step f) → ⊥
+  pub lower : (g : ℕ) → g < f → ShowsAt columns g j (value step g)
+
 -- p is the lowest place that has not its truth
 pub record FirstWrong (columns : List (List Bool)) (places : List ℤ) (p : ℕ) : Type 0 where
   pub few : p < length places

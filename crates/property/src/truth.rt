@@ -6,7 +6,7 @@ ghost use Rattle.looping.specs.Limits.{step_limit};
 ghost use Rattle.looping.specs.Columns.{at};
 ghost use Rattle.looping.specs.Words.{Within};
 ghost use Rattle.property.specs.Meaning.{value, signal_of, holds, Fitting, Filled, LowestWrong};
-ghost use Rattle.property.specs.ByNode.{spot, Means, Inside, Known, Shows, FirstWrong};
+ghost use Rattle.property.specs.ByNode.{spot, Means, Inside, Known, Shows, ShowsAt, FirstWrong, FirstWrongAt};
 
 use crate::nodes::{Atom, NODES, Node};
 use arrayvec::ArrayVec;
@@ -70,33 +70,58 @@ impl Layout {
     }
 }
 
-// What stands at place p behind the signals of a table: of m columns, column p % m at step p / m + 1.
-fn truth_at(columns: &[Column], p: usize) -> i16
-    requires { p < length columns.now * step_limit }
-    ensures { Shows columns.now p result }
+// What stands for node f at one step, which is at place `j` of the columns.
+fn truth_at(columns: &[Column], f: usize, j: usize) -> i16
+    requires { (f < length columns.now) × (j < step_limit) }
+    ensures { ShowsAt columns.now f j result }
 {
-    i16::from(columns[p % columns.len()][p / columns.len()])
+    i16::from(columns[f][j])
 }
 
-// Writes the truths, step by step.
-fn write_truths(columns: &[Column], places: &mut [i16])
-    requires { length places.old ≤ length columns.now * step_limit }
-    ensures { (p : ℕ) → p < length places.old → Shows columns.now p (value places.new p) }
+// Writes the truths at one step, which is at place `j` of the columns.
+fn write_step(columns: &[Column], j: usize, step: &mut [i16])
+    requires { (j < step_limit) × (length step.old ≡ length columns.now) }
+    ensures { (f : ℕ) → f < length columns.now → ShowsAt columns.now f j (value step.new f) }
 {
-    for (p, it) in places.iter_mut().enumerate() {
-        *it = truth_at(columns, p);
+    for (f, it) in step.iter_mut().enumerate() {
+        *it = truth_at(columns, f, j);
     }
 }
 
-// The first place that has not its truth.
-fn first_wrong(columns: &[Column], places: &[i16]) -> Option<usize>
-    requires { length places.now ≤ length columns.now * step_limit }
+// Writes the truths of so many steps, step by step: finding node and step of each place by a division would cost more than
+// all else.
+fn write_truths(columns: &[Column], steps: usize, places: &mut [i16])
+    requires { (steps ≤ step_limit) × (length places.old ≡ steps * length columns.now) }
+    ensures { (p : ℕ) → p < length places.old → Shows columns.now p (value places.new p) }
+{
+    let m = columns.len();
+    for j in 0..steps {
+        write_step(columns, j, &mut places[j * m..j * m + m]);
+    }
+}
+
+// The first node that has not its truth at one step, which is at place `j` of the columns.
+fn wrong_at(columns: &[Column], j: usize, step: &[i16]) -> Option<usize>
+    requires { (j < step_limit) × (length step.now ≡ length columns.now) }
+    ensures { MatchOption result ((f : ℕ) → f < length columns.now → ShowsAt columns.now f j (value step.now f)) (λ f. FirstWrongAt columns.now j step.now f) }
+{
+    step.iter()
+        .enumerate()
+        .position(|(f, it)| *it != truth_at(columns, f, j))
+}
+
+// The first place, of so many steps, that has not its truth.
+fn first_wrong(columns: &[Column], steps: usize, places: &[i16]) -> Option<usize>
+    requires { (steps ≤ step_limit) × (length places.now ≡ steps * length columns.now) }
     ensures { MatchOption result ((p : ℕ) → p < length places.now → Shows columns.now p (value places.now p)) (λ p. FirstWrong columns.now places.now p) }
 {
-    places
-        .iter()
-        .enumerate()
-        .position(|(p, it)| *it != truth_at(columns, p))
+    let m = columns.len();
+    for j in 0..steps {
+        if let Some(f) = wrong_at(columns, j, &places[j * m..j * m + m]) {
+            return Some(j * m + f);
+        }
+    }
+    None
 }
 
 // Fills in the truth of each node at each step: 1 where the node's tree holds over the infinite run, at every position that
@@ -107,7 +132,8 @@ pub fn fill(nodes: &[Node<u16>], signals: usize, lasso: Lasso, table: &mut [i16]
     ensures kept { (e : ℕ) → e < signals * lasso.steps → value table.new e ≡ value table.old e }
 {
     let columns = Layout { signals, lasso }.columns(nodes, table);
-    write_truths(columns.as_slice(), &mut table[signals * lasso.steps..]);
+    let start = signals * lasso.steps;
+    write_truths(columns.as_slice(), lasso.steps, &mut table[start..]);
 }
 
 // The lowest of the nodes' entries whose value is not the truth that `fill` writes there, or none.
@@ -122,6 +148,6 @@ pub fn check_truths(
 {
     let columns = Layout { signals, lasso }.columns(nodes, table);
     let start = signals * lasso.steps;
-    let p = first_wrong(columns.as_slice(), &table[start..])?;
+    let p = first_wrong(columns.as_slice(), lasso.steps, &table[start..])?;
     Some(start + p)
 }

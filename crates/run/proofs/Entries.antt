@@ -6,6 +6,7 @@ use Rattle.std.proofs.lemmas.List.{get_or_default}
 use Rattle.blocks.specs.Blocks.{ShapeOf, unknown_kind, no_such_count, shaped, InType, ValueAnswer}
 use Rattle.blocks.specs.declared.types.LibraryFault.{LibraryFault}
 use Rattle.blocks.specs.declared.types.ValueType.TheVariants.{Truth}
+use Rattle.diagram.specs.declared.signals.Signal.{Signal}
 use Rattle.diagram.specs.declared.signals.Signal.TheVariants.{Delay, Block}
 use Rattle.diagram.specs.declared.signals.Pin.{Pin}
 use Rattle.diagram.specs.declared.rules.Diagram.{Diagram}
@@ -15,7 +16,7 @@ use Rattle.diagram.proofs.Shapings.{stretch_at, stretch_length}
 use Rattle.run.specs.Values.{value_at, TypedBelow}
 use Rattle.run.specs.Making.{Functions, shown, pin_shows, padded, LawfulFor, delay_reads, makes, made_at}
 use Rattle.run.specs.Runs.{Counted}
-use Rattle.std.proofs.lemmas.Nat.{div-add-mod'}
+use Rattle.std.proofs.lemmas.Nat.{div-add-mod', div-mul-add}
 use Rattle.run.proofs.Rows.{padded_same}
 use Rattle.run.proofs.Makes.{delay_below, lower_typed, row_lawful, inverted_bool}
 
@@ -93,3 +94,44 @@ module _ (d : Diagram) (e : ℕ) where
         let ok : result_ok r ≡ Some (f k c row) = value_ok (shapes k c) (f k c) row r a (subst (λ z. LawfulFor (shapes k c) z) (sym row_is) lawful) in
         let made : made_at f d.signals.now d.pins.now table e ≡ Some (f k c (padded c (pin_shows d.pins.now first table start))) = ap (λ x. makes f n d.pins.now table (e / n) x) block in
         ok ∙ ap (λ z. Some (f k c z)) row_is ∙ sym made
+
+-- the same, where the entries of the step begin at `start`
+pub block_made_from : (d : Diagram) (e k first c : ℕ) → signal_at d.signals.now (e % length d.signals.now) ≡ Block k first c → (start : ℕ) → start ≡ e / length d.signals.now * length d.signals.now
+    → (shapes : Shapes) (f : Functions) → Counted shapes → (table : List ℤ) → TypedBelow shapes d.signals.now d.pins.now table e → (row : List ℤ)
+    → (All (λ (pin : Pin). pin.inverted ≡ true → InType Truth (value_at table (start + pin.signal))) (slice_range d.pins.now first (first + c))
+    → row ≡ padded (length (slice_range d.pins.now first (first + c))) (pin_shows (slice_range d.pins.now first (first + c)) 0 table start))
+    → (r : Result ℤ LibraryFault) → ValueAnswer (shapes k c) (f k c) row r → result_ok r ≡ made_at f d.signals.now d.pins.now table e
+block_made_from d e k first c block start at shapes f counted table t row makes_row r a =
+    block_made d e k first c block shapes f counted table t row
+    (subst
+    (λ x. All (λ (pin : Pin). pin.inverted ≡ true → InType Truth (value_at table (x + pin.signal))) (slice_range d.pins.now first (first + c))
+    → row ≡ padded (length (slice_range d.pins.now first (first + c))) (pin_shows (slice_range d.pins.now first (first + c)) 0 table x))
+    at makes_row)
+    r a
+
+-- signal s at the step whose entries begin at `start`
+module _ (d : Diagram) (start s : ℕ) (step : start ≡ (start + s) / length d.signals.now * length d.signals.now) where
+  same_signal : s ≡ (start + s) % length d.signals.now
+  same_signal = omega (arith, step, div-add-mod' (start + s) (length d.signals.now))
+
+  pub known : s < length d.signals.now
+  known = omega (arith, same_signal, mod-lt (start + s) d.some)
+
+  pub signal_here : (x : Signal) → signal_at d.signals.now s ≡ x → signal_at d.signals.now ((start + s) % length d.signals.now) ≡ x
+  signal_here x q = subst (λ k. signal_at d.signals.now k ≡ x) same_signal q
+
+  pub same_step : (start + s) / length d.signals.now ≡ start / length d.signals.now
+  same_step =
+      let n = length d.signals.now in
+      let q = (start + s) / n in
+      let none : start ≡ q * n + 0 = omega (arith, step) in
+      sym (ap (λ (k : ℕ). k / n) none ∙ div-mul-add q n 0 d.some)
+
+  pub whole : start / length d.signals.now * length d.signals.now ≡ start
+  whole = sym (step ∙ ap (λ (k : ℕ). k * length d.signals.now) same_step)
+
+  pub made_here : (f : Functions) (table : List ℤ) (x : Signal) → signal_at d.signals.now s ≡ x
+      → made_at f d.signals.now d.pins.now table (start + s) ≡ makes f (length d.signals.now) d.pins.now table (start / length d.signals.now) x
+  made_here f table x q =
+      ap (λ y. makes f (length d.signals.now) d.pins.now table ((start + s) / length d.signals.now) y) (signal_here x q)
+      ∙ ap (λ j. makes f (length d.signals.now) d.pins.now table j x) same_step

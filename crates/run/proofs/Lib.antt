@@ -2,3 +2,4 @@ pub mod Rows
 pub mod Makes
 pub mod Entries
 pub mod Fills
+pub mod Steps

@@ -26,6 +26,12 @@ pub record FirstOutside (types : List ValueType) (n : ℕ) (table : List ℤ) (c
   pub here : InItsType types n table e → ⊥
   pub before : (k : ℕ) → k < e → InItsType types n table k
 
+-- signal s is the lowest whose value at one step lies outside its type
+pub record FirstOutsideAt (types : List ValueType) (step : List ℤ) (s : ℕ) : Type 0 where
+  pub below : s < length step
+  pub here : InType (type_at types s) (value_at step s) → ⊥
+  pub before : (k : ℕ) → k < s → InType (type_at types k) (value_at step k)
+
 -- a signal is a source
 abbrev pub is_source : Signal → Bool
 is_source (Source t) = true

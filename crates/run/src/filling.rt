@@ -13,10 +13,14 @@ pub fn fill_run<L: BlockLibrary>(lib: &L, d: &Diagram, steps: usize, table: &mut
     requires typed { SourcesTyped (L.shape lib.now) d.now.signals.now d.now.pins.now table.old (length d.now.signals.now * steps) }
     ensures { FilledFrom (L.function lib.now) d.now.signals.now d.now.pins.now (length d.now.signals.now * steps) table.old table.new }
 {
-    // The loop counts entries, since each is made from lower ones of the table that it is written to.
-    for e in 0..d.signals.len() * steps {
-        if let Some(v) = made(lib, d, table, e) {
-            table[e] = v;
+    // By step and signal: each entry is made from lower ones of the table that it is written to.
+    let n = d.signals.len();
+    for j in 0..steps {
+        let start = j * n;
+        for s in 0..n {
+            if let Some(v) = made(lib, d, table, start, s) {
+                table[start + s] = v;
+            }
         }
     }
 }

@@ -1,5 +1,5 @@
 // The values that a diagram makes.
-ghost use Rattle.std.specs.Prelude.{◌≡◌, ◌+◌, ◌<◌, ◌≤◌, true, length, All, Decides, IfSome, MatchOption};
+ghost use Rattle.std.specs.Prelude.{◌≡◌, ℕ, ◌+◌, ◌*◌, ◌/◌, ◌%◌, ◌<◌, ◌≤◌, true, length, All, Decides, IfSome, MatchOption};
 ghost use Rattle.blocks.specs.Blocks.{InType};
 ghost use Rattle.blocks.specs.declared.types.ValueType.TheVariants.{Truth};
 ghost use Rattle.run.specs.Values.{value_at, TypedBelow};
@@ -35,32 +35,42 @@ fn row_at(pins: &[Pin], table: &[i16], start: usize) -> [i16; PINS]
     row
 }
 
-// What a delay holds at step j: its default's value at the first step, else its input's one step earlier.
-fn delayed(n: usize, table: &[i16], j: usize, default: u16, input: u16) -> i16
-    requires { delay_reads n j default input < length table.now }
-    ensures { result ≡ value_at table.now (delay_reads n j default input) }
+// What a delay holds at the step whose entries begin at `start`: its default's value at the first step, else its input's one
+// step earlier.
+fn delayed(n: usize, table: &[i16], start: usize, default: u16, input: u16) -> i16
+    requires whole { (0 < n) × (start / n * n ≡ start) }
+    requires inside { delay_reads n (start / n) default input < length table.now }
+    ensures { result ≡ value_at table.now (delay_reads n (start / n) default input) }
 {
-    if j == 0 {
+    if start == 0 {
         table[usize::from(default)]
     } else {
-        table[(j - 1) * n + usize::from(input)]
+        table[start - n + usize::from(input)]
     }
 }
 
 // The library and the diagram stay two parameters in this crate, as in crate `diagram`: a case has both.
-// The value that the diagram makes of an entry from those of lower entries; none for a source.
-pub(crate) fn made<L: BlockLibrary>(lib: &L, d: &Diagram, table: &[i16], e: usize) -> Option<i16>
-    requires { e < length table.now }
-    ensures { TypedBelow (L.shape lib.now) d.now.signals.now d.now.pins.now table.now e → result ≡ made_at (L.function lib.now) d.now.signals.now d.now.pins.now table.now e }
+// The value that the diagram makes of signal s at the step whose entries begin at `start`, from those of lower entries; none
+// for a source. An entry is told by these two, since finding them by a division costs more than a delay or a constant.
+pub(crate) fn made<L: BlockLibrary>(
+    lib: &L,
+    d: &Diagram,
+    table: &[i16],
+    start: usize,
+    s: usize,
+) -> Option<i16>
+    requires inside { start + s < length table.now }
+    requires step { start ≡ (start + s) / length d.now.signals.now * length d.now.signals.now }
+    ensures { TypedBelow (L.shape lib.now) d.now.signals.now d.now.pins.now table.now (start + s) → result ≡ made_at (L.function lib.now) d.now.signals.now d.now.pins.now table.now (start + s) }
 {
-    let n = d.signals.len();
-    let j = e / n;
-    match d.signals[e % n] {
+    match d.signals[s] {
         Signal::Source(_) => None,
         Signal::Constant(_, v) => Some(v),
-        Signal::Delay { default, input } => Some(delayed(n, table, j, default, input)),
+        Signal::Delay { default, input } => {
+            Some(delayed(d.signals.len(), table, start, default, input))
+        }
         Signal::Block { kind, first, count } => {
-            let row = row_at(d.stretch_of(first, count), table, j * n);
+            let row = row_at(d.stretch_of(first, count), table, start);
             lib.value(kind, count, row).ok()
         }
     }
@@ -73,12 +83,21 @@ fn is_made(made: Option<i16>, v: i16) -> bool
     made.is_none_or(|w| v == w)
 }
 
-// Whether the value of an entry is the one that the diagram makes, if it makes one.
-fn keeps_made<L: BlockLibrary>(lib: &L, d: &Diagram, table: &[i16], e: usize) -> bool
-    requires { e < length table.now }
+// The signal of the entry after one of signal s, where there are n signals.
+fn signal_after(s: usize, n: usize) -> usize
+    requires { s < n }
+    ensures { (e : ℕ) → s ≡ e % n → result ≡ (e + 1) % n }
+{
+    if s + 1 < n { s + 1 } else { 0 }
+}
+
+// Whether the value of entry e, which is one of signal s, is the one that the diagram makes, if it makes one.
+fn keeps_made<L: BlockLibrary>(lib: &L, d: &Diagram, table: &[i16], e: usize, s: usize) -> bool
+    requires inside { e < length table.now }
+    requires signal { s ≡ e % length d.now.signals.now }
     ensures { TypedBelow (L.shape lib.now) d.now.signals.now d.now.pins.now table.now (length table.now) → Decides result (Is (made_at (L.function lib.now) d.now.signals.now d.now.pins.now table.now e) (value_at table.now e)) }
 {
-    is_made(made(lib, d, table, e), table[e])
+    is_made(made(lib, d, table, e - s, s), table[e])
 }
 
 // The lowest entry whose value is not the one that the diagram makes.
@@ -86,8 +105,14 @@ pub fn not_made<L: BlockLibrary>(lib: &L, d: &Diagram, table: &[i16]) -> Option<
     ensures within { IfSome result (λ e. e < length table.now) }
     ensures exact { TypedBelow (L.shape lib.now) d.now.signals.now d.now.pins.now table.now (length table.now) → MatchOption result (AllMade (L.function lib.now) d.now.signals.now d.now.pins.now table.now (length table.now)) (λ e. FirstUnmade (L.function lib.now) d.now.signals.now d.now.pins.now table.now (length table.now) e) }
 {
-    table
-        .iter()
-        .enumerate()
-        .position(|(e, _)| !keeps_made(lib, d, table, e))
+    // The signal is counted beside the entry: a division for each entry costs more than a delay or a constant, and with a
+    // chain over a `cycle` the proof did not close.
+    let mut s = 0;
+    for e in 0..table.len() {
+        if !keeps_made(lib, d, table, e, s) {
+            return Some(e);
+        }
+        s = signal_after(s, d.signals.len());
+    }
+    None
 }

@@ -6,12 +6,10 @@
 //   single  = ( "!" | "X" | "F" | "G" ) single | "(" whole ")" | atom
 //   atom    = name [ ( "=" | "<" | ">" ) number ]
 ghost use Rattle.std.specs.Prelude.{◌<◌, ◌≤◌, length, IfOk};
-ghost use Rattle.arrayvec.specs.ArrayVec.{array_vec_len};
 ghost use Rattle.sentence.specs.Signs.{comparison_of, prefix_of, Takes};
 
 use crate::terms::{NoSentence, Placed, Span, Terms};
 use crate::token::{Operator, Token, skip_spaces};
-use arrayvec::ArrayVec;
 use looping::{Binary, Unary};
 use property::nodes::{Atom, Comparison, Node};
 use text::cursor::Cursor;
@@ -55,25 +53,19 @@ impl TryFrom<Operator> for Unary {
 struct Parser<'a> {
     cursor: Cursor<'a>,
     terms: Terms,
-    ghost few: { array_vec_len terms ≤ 64 },
 }
 
 impl<'a> Parser<'a> {
     ghost use Rattle.std.specs.Prelude.{◌≡◌, ◌+◌, ◌<◌, ◌≤◌, IfOk, IfSome};
-    ghost use Rattle.arrayvec.specs.ArrayVec.{array_vec_len};
     ghost use Rattle.sentence.specs.Steps.{Onward, Step};
 
     // One node more, with its number; refused where there are NODES.
     fn add(&mut self, node: Node<Span>, place: Span) -> Result<usize, NoSentence>
         ensures cursor { self.new.cursor ≡ self.old.cursor }
-        ensures grown { array_vec_len self.old.terms ≤ array_vec_len self.new.terms }
-        ensures last { IfOk result (λ f. f + 1 ≡ array_vec_len self.new.terms) }
+        ensures grown { self.old.terms.count ≤ self.new.terms.count }
+        ensures last { IfOk result (λ f. f + 1 ≡ self.new.terms.count) }
     {
-        let f = self.terms.len();
-        self.terms
-            .try_push(Placed { node, place })
-            .map_err(|_| NoSentence)?;
-        Ok(f)
+        self.terms.add(Placed { node, place })
     }
 
     // What the next token is taken as, with its place, and past it; none where it is no operator that is taken.
@@ -115,7 +107,7 @@ impl<'a> Parser<'a> {
     // An atom whose name stands before the place come to: a comparison with a number where its sign comes next.
     fn atom(&mut self, name: Span) -> Result<usize, NoSentence>
         ensures onward { Onward self.old self.new }
-        ensures last { IfOk result (λ node. node + 1 ≡ array_vec_len self.new.terms) }
+        ensures last { IfOk result (λ node. node + 1 ≡ self.new.terms.count) }
     {
         let atom = match self.accept(|operator| Comparison::try_from(operator).ok()) {
             Some((comparison, _)) => Atom::Compare {
@@ -215,10 +207,10 @@ impl<'a> Parser<'a> {
 
 // The terms of the sentence that the bytes from `from` to their end are.
 pub fn sentence(bytes: &[u8], from: usize) -> Result<Terms, NoSentence>
-    ensures { IfOk result (λ t. (1 ≤ array_vec_len t) × (array_vec_len t ≤ 64) × (from < length bytes.now)) }
+    ensures { IfOk result (λ t. (1 ≤ t.count) × (t.count ≤ 64) × (from < length bytes.now)) }
 {
     let cursor = Cursor::new(bytes, from).ok_or(NoSentence)?;
-    let terms = ArrayVec::new();
+    let terms = Terms::none();
     let mut parser = Parser { cursor, terms };
     parser.whole()?;
     skip_spaces(&mut parser.cursor);

@@ -1,9 +1,8 @@
 // What a property's text is read into: nodes in their order, with the places of their words.
-ghost use Rattle.std.specs.Prelude.{◌≡◌};
+ghost use Rattle.std.specs.Prelude.{◌≡◌, ◌≤◌};
 ghost use Rattle.property.specs.declared.nodes.Atom.TheVariants.{Truth};
 ghost use Rattle.property.specs.declared.nodes.Node.TheVariants.{Atom as Leaf};
 
-use arrayvec::ArrayVec;
 use property::nodes::{Atom, NODES, Node};
 
 // A stretch of the file.
@@ -31,9 +30,50 @@ impl Default for Placed {
     }
 }
 
-// The nodes of a property, left side first, then the right side, then the node.
-pub type Terms = ArrayVec<Placed, NODES>;
-
 // The text is no sentence, or has more than NODES nodes.
 #[derive(Clone, Copy)]
 pub struct NoSentence;
+
+// The nodes of a property, left side first, then the right side, then the node. An array with a count: they are a plain
+// value that is copied freely, and a list of the library is not `Copy`.
+#[derive(Clone, Copy)]
+pub struct Terms {
+    pub items: [Placed; NODES],
+    pub count: usize,
+    ghost few: { count ≤ 64 },
+}
+
+impl Terms {
+    ghost use Rattle.std.specs.Prelude.{◌≡◌, ◌+◌, ◌≤◌, take, IfOk};
+
+    // No nodes.
+    pub(crate) fn none() -> Terms
+        ensures { result.count ≡ 0 }
+    {
+        Terms {
+            items: [Placed::default(); NODES],
+            count: 0,
+        }
+    }
+
+    // One node more, with its number; refused where there are NODES.
+    pub(crate) fn add(&mut self, placed: Placed) -> Result<usize, NoSentence>
+        ensures grown { self.old.count ≤ self.new.count }
+        ensures last { IfOk result (λ f. f + 1 ≡ self.new.count) }
+    {
+        let f = self.count;
+        if f >= NODES {
+            return Err(NoSentence);
+        }
+        self.items[f] = placed;
+        self.count = f + 1;
+        Ok(f)
+    }
+
+    // The nodes that there are.
+    pub fn as_slice(&self) -> &[Placed]
+        ensures { result.now ≡ take self.now.count self.now.items }
+    {
+        &self.items[..self.count]
+    }
+}

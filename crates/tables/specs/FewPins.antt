@@ -1,14 +1,13 @@
 -- The tables of a library have few pins.
 use Rattle.std.specs.Prelude.{◌≡◌, ℕ, ◌≤◌, true, Some, List, length, nat_lt, slice_index_or}
-use Rattle.std.proofs.Common.{ap, ◌∙◌, subst, arith}
-use Rattle.std.proofs.lemmas.List.{length-replicate}
+use Rattle.std.proofs.Common.{subst, arith}
 use Rattle.std.proofs.lemmas.Option.{cond_some}
 use Rattle.std.proofs.lemmas.Bool.{ltb-true}
 use Rattle.std.proofs.lemmas.Bool.Decides.{nat_tests}
 use Rattle.blocks.specs.declared.types.ValueType.{ValueType}
 use Rattle.blocks.specs.declared.types.ValueType.TheVariants.{Truth}
 use Rattle.blocks.specs.Blocks.{shaped}
-use Rattle.blocks.specs.Uniformly.{shaped_is}
+use Rattle.blocks.specs.Uniformly.{counted_where}
 use Rattle.tables.specs.declared.table.Table.{Table}
 use Rattle.tables.specs.declared.held.Tables.{Tables}
 use Rattle.tables.specs.Rules.{absent, Pinned}
@@ -26,6 +25,4 @@ few_pins s k c t e h =
 
 -- a block has as many pins as its count says, at most eight
 pub tables_counted : (s : Tables) (k c : ℕ) (pins : List ValueType) (out : ValueType) → table_shape s k c ≡ shaped pins out → (length pins ≡ c) × (c ≤ 8)
-tables_counted s k c pins out e =
-    let found = shaped_is takes Truth (λ _. Truth) table_result (table_of s k) c pins out e in
-    (ap length found.3 ∙ length-replicate c Truth, few_pins s k c found.0 found.1 found.2)
+tables_counted s k c pins out e = counted_where takes Truth (λ _. Truth) table_result (table_of s k) c (λ t found takes. few_pins s k c t found takes) pins out e

@@ -1,23 +1,20 @@
 -- What the digits of a number are, and which number digits write.
-use Rattle.std.proofs.Common.{◌≡◌, ℕ, ◌+◌, ◌^◌, ◌<◌, ◌≤◌, true, false, Option, MatchOption, subst, List, [], ◌∷◌, length, get_or, decimal, sym, ap, ◌∙◌, ⊎_elim, arith}
-use Rattle.std.specs.Str.Parse.{AllDigits, IsNumeral, digits_value}
-use Rattle.std.specs.Str.{IsUtf8}
+use Rattle.std.proofs.Common.{◌≡◌, ℕ, ◌+◌, ◌-◌, ◌^◌, ◌<◌, ◌≤◌, true, List, [], ◌∷◌, length, get_or, decimal, sym, ap, ◌∙◌, ⊎_elim, arith}
+use Rattle.std.specs.Str.Parse.{AllDigits, digits_value}
 use Rattle.std.specs.Int.{IsInRange}
+use Rattle.std.specs.Char.{digit_value as digitValue}
 use Rattle.std.proofs.lemmas.Str.Parse.{IsNumeralModel, numerals_by_value, tells_digits, digit_at}
-use Rattle.std.proofs.lemmas.Fmt.{IsAscii-from_digits, decimal_digit, decimal_nonempty, first_decimal, digits_decimal, digits_value-decimal, decimal-digits_value}
-use Rattle.std.proofs.lemmas.Str.{IsUtf8-from_ascii}
+use Rattle.std.proofs.lemmas.Fmt.{decimal_digit, decimal_nonempty, length-decimal-le, first_decimal, digits_decimal, digits_value-decimal, decimal-digits_value}
 use Rattle.std.proofs.lemmas.Bool.{cases_lt}
-use Rattle.std.proofs.lemmas.Bool.Decides.{nat_tests, leb_tells}
-use Rattle.std.proofs.Math.Dec.{leb}
-use Rattle.std.specs.Bool.{then_some}
+use Rattle.std.proofs.lemmas.Bool.Decides.{nat_tests}
 use Rattle.text.specs.Words.{digit}
 use Rattle.text.specs.Decimal.{Magnitude}
 
 own : IsNumeralModel (AllDigits 10) (digits_value 10)
 own = numerals_by_value (AllDigits 10) tells_digits
 
-pub text_of : (bs : List ℕ) → IsNumeral 10 bs → IsUtf8 bs
-text_of bs p = IsUtf8-from_ascii bs (IsAscii-from_digits bs p.1)
+pub digit_value : (b : ℕ) → digit b ≡ true → (digitValue b ≡ b - 48) × (digitValue b < 10)
+digit_value b h = grind (arith, nat_tests)
 
 pub digit_in : (b : ℕ) → IsInRange 48 57 b → digit b ≡ true
 digit_in b h = grind (arith, nat_tests)
@@ -28,6 +25,9 @@ module _ (bs : List ℕ) (n : ℕ) (m : Magnitude bs n) where
 
   pub some : 0 < length bs
   some = rw m.digits (decimal_nonempty n fits)
+
+  pub five : length bs ≤ 5
+  five = rw m.digits (length-decimal-le 5 n (omega arith) (omega (arith, m.high)) fits)
 
   pub no_zero_first : get_or bs 0 0 ≡ 48 → length bs ≡ 1
   no_zero_first e =
@@ -40,9 +40,6 @@ module _ (bs : List ℕ) (n : ℕ) (m : Magnitude bs n) where
       let d : AllDigits 10 bs = rw m.digits (digits_decimal own n fits) in
       digit_in (get_or bs k 0) (digit_at bs k d h)
 
-  pub numeral : IsNumeral 10 bs
-  numeral = (some, rw m.digits (digits_decimal own n fits))
-
   pub value_is : digits_value 10 bs ≡ n
   value_is = rw m.digits (digits_value-decimal own n fits)
 
@@ -54,15 +51,3 @@ magnitude_from bs d some first high = record {
 
 pub same_magnitude : (bs : List ℕ) (m n : ℕ) → Magnitude bs m → Magnitude bs n → m ≡ n
 same_magnitude bs m n a b = sym (value_is bs m a) ∙ value_is bs n b
-
--- the number that digits write, where it is small enough to be a magnitude
-pub small_enough : (bs : List ℕ) (v : ℕ) (o : Option ℕ) → o ≡ then_some (leb v 30000) v → IsNumeral 10 bs → digits_value 10 bs ≡ v → (get_or bs 0 0 ≡ 48 → length bs ≡ 1) → MatchOption o ((n : ℕ) → Magnitude bs n → ⊥) (λ n. Magnitude bs n)
-small_enough bs v o e d w first =
-    ⊎_elim
-    (λ (y : (leb v 30000 ≡ true) × (v ≤ 30000)).
-    let m : Magnitude bs v = subst (λ x. Magnitude bs x) w (magnitude_from bs d.1 d.0 first (omega (arith, w, y.1))) in
-    rw (e, y.0) m)
-    (λ (y : (leb v 30000 ≡ false) × (30000 < v)).
-    let m : (n : ℕ) → Magnitude bs n → ⊥ = λ n m. omega (arith, w, y.1, value_is bs n m, m.high) in
-    rw (e, y.0) m)
-    (leb_tells v 30000)

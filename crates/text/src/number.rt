@@ -1,35 +1,38 @@
 // Numbers in decimal.
-ghost use Rattle.std.specs.Prelude.{◌≡◌, ℕ, ◌≤◌, ◌<◌, ◌^◌, ℤ, pos, MatchOption};
-ghost use Rattle.std.specs.Option.{SomeIff};
-ghost use Rattle.std.specs.Str.Parse.{IsNumeral, digits_value};
+ghost use Rattle.std.specs.Prelude.{◌≡◌, ℕ, ◌≤◌, ℤ, pos, MatchOption};
 ghost use Rattle.text.specs.Decimal.{Magnitude, Number};
 
-use std::str;
+use crate::name::is_digit;
 
-// The largest magnitude of a num.
-pub const LARGEST: u16 = 30_000;
+// The largest magnitude of a num, and how many digits it has.
+pub const LARGEST: u32 = 30_000;
 
-// The number that the bytes write, where each is a digit: a plus, which parse allows, is refused.
-#[tactic(auto, using(crate::proofs::Magnitudes::text_of))]
-fn read_digits(bytes: &[u8]) -> Option<u16>
-    ensures { SomeIff result (IsNumeral 10 bytes.now × (digits_value 10 bytes.now < 2 ^ 16))
-        (digits_value 10 bytes.now) }
-{
-    if bytes.first() == Some(&b'+') {
-        return None;
-    }
-    str::from_utf8(bytes).ok()?.parse().ok()
-}
+const DIGITS: usize = 5;
 
-// The number that the bytes write without a sign.
+// The number that the bytes write without a sign. A loop over the digits, and no `parse`, which asks for a text: finding that
+// the bytes are one, and then reading it, takes twice the time, and looks at all bytes of a text that is too long.
 pub fn read_magnitude(bytes: &[u8]) -> Option<u16>
     ensures { MatchOption result ((n : ℕ) → Magnitude bytes.now n → ⊥) (λ n. Magnitude bytes.now n) }
 {
-    if bytes.len() > 1 && bytes[0] == b'0' {
+    let length = bytes.len();
+    if length == 0 || length > DIGITS {
         return None;
     }
-    let n = read_digits(bytes)?;
-    (n <= LARGEST).then_some(n)
+    if bytes[0] == b'0' && length > 1 {
+        return None;
+    }
+    let mut n: u32 = 0;
+    for b in bytes {
+        if !is_digit(*b) {
+            return None;
+        }
+        n = n * 10 + u32::from(*b - b'0');
+    }
+    if n > LARGEST {
+        return None;
+    }
+    // A cast: `try_from` would need a branch for what cannot be.
+    Some(n as u16)
 }
 
 // The num that the bytes write without a sign.

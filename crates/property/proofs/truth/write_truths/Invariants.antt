@@ -1,7 +1,7 @@
-use Rattle.std.proofs.Common.{ℕ, ◌<◌}
+use Rattle.std.proofs.Common.{ℕ, ◌*◌, ◌<◌, length}
 use Rattle.property.specs.Meaning.{value}
 use Rattle.property.specs.ByNode.{Shows}
 use Rattle.property.proofs.truth.write_truths.Given as goal
 
-abbrev pub invariant-loop-p : goal.invariant-loop-p
-invariant-loop-p l = (q : ℕ) → q < l.p → Shows l.columns q (value l.places q)
+abbrev pub invariant-loop-j : goal.invariant-loop-j
+invariant-loop-j l = (q : ℕ) → q < l.j * length l.columns → Shows l.columns q (value l.places q)
