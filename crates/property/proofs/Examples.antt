@@ -13,7 +13,7 @@ use Rattle.property.specs.declared.nodes.Node.TheVariants.{Atom as Leaf, One, Tw
 use Rattle.property.specs.Naming.{Renamed}
 use Rattle.property.specs.Numbering.{size, numbered, OneTree, node, Spans, Rooted, SidesBefore, Started, Begins, EachBefore}
 use Rattle.property.specs.Meaning.{value, signal_entry, node_entry, eq_z, compares, signal_of, holds_at, holds, Atoms, Fitting, Says, TruthAt, Filled, LowestWrong}
-use Rattle.property.specs.ByNode.{spot, Means, Shows, FirstWrong, Inside, Known, node_at, BySides}
+use Rattle.property.specs.ByNode.{spot, Means, Shows, ShowsAt, FirstWrong, FirstWrongAt, Inside, Known, node_at, BySides}
 use Rattle.looping.proofs.Paths.{word_within}
 use Rattle.property.proofs.Trees.{same_tree}
 use Rattle.property.proofs.Numbers.{numbered_spans}
@@ -224,6 +224,19 @@ third_place = refl
 
 last_place : Shows columns 3 (pos 1)
 last_place = refl
+
+-- node 1 at the second step
+second_step : ShowsAt columns 1 1 (pos 1)
+second_step = refl
+
+-- the first of two nodes has not its truth at the second step
+wrong_at_step : FirstWrongAt columns 1 (pos 1 ∷ pos 1 ∷ []) 0
+wrong_at_step =
+    record {
+      few = omega arith;
+      wrong = λ e. let z : ◌≡◌ {A = ℕ} 0 1 = cc e in omega arith;
+      lower = λ g h. absurd (omega arith);
+    }
 
 first_wrong : FirstWrong columns (pos 1 ∷ pos 1 ∷ pos 0 ∷ pos 1 ∷ []) 1
 first_wrong =
